@@ -1,1 +1,4 @@
+pub mod Lists
+pub mod Networks
+pub mod Paths
 pub mod Examples

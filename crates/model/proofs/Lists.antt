@@ -1,0 +1,186 @@
+-- Laws of the words of specs/Basics.antt.
+use Prim.Native.Nat.{ℕ, zero, suc, _+_, _≤_, _<_, max}
+use mathlib.Core.Path.{_≡_, refl, sym, _∙_, ap, subst}
+use mathlib.Core.Logic.{_⊎_, inl, inr, ⊎-elim}
+use mathlib.Core.Bool.{Bool, true, false, cond, not, _||_}
+use mathlib.Core.List.{List, [], _∷_, _++_, map, List·Memᴰ, List·Memᴰ·head, List·Memᴰ·tail, List·Memᴰ·not-nil, List·Memᴰ·cases-cons, Memᴰ·append-left, Memᴰ·append-right, List·Memᴰ·append-cases, List·Memᴰ·eq-of-singleton, Memᴰ·cast}
+use native.Mathlib.Nat.{le-max-left, le-max-right, max-eq-left, max-eq-right}
+use native.Mathlib.Decide.{ℕ-discrete, decLe}
+use native.Mathlib.Omega.{arith}
+use borrow.Author.Tests.{eq-eqb, ne-eqb, eqb-true, eqb-false}
+use lib.Dec.{eqb}
+use Rattle.model.specs.Basics.{_∈_, Largest, Distinct, none, more, upto, largest, member, keep, gather, total}
+
+-- truth and falsehood of tests
+
+pub true-or-false : (b : Bool) → (b ≡ true) ⊎ (b ≡ false)
+true-or-false true = inl refl
+true-or-false false = inr refl
+
+pub not-both : {b : Bool} → b ≡ true → b ≡ false → ⊥
+not-both p q = let z : _≡_ {A = ℕ} 0 1 = cc in omega arith
+
+-- equal or not
+pub same-or-not : (x y : ℕ) → (x ≡ y) ⊎ (x ≡ y → ⊥)
+same-or-not x y = elim (ℕ-discrete x y) [ yes e ↦ inl e | no h ↦ inr h ]
+
+-- member
+
+pub member-true : (x : ℕ) (xs : List ℕ) → member x xs ≡ true → x ∈ xs
+unfolding member
+member-true x [] h = absurd (not-both {b = false} h refl)
+member-true x (y ∷ ys) h =
+    ⊎-elim (λ (e : x ≡ y). List·Memᴰ·head e)
+    (λ (d : x ≡ y → ⊥). List·Memᴰ·tail (member-true x ys (rw (ne-eqb x y d) at h)))
+    (same-or-not x y)
+
+pub true-member : {x : ℕ} {xs : List ℕ} → x ∈ xs → member x xs ≡ true
+unfolding member
+true-member {x} (List·Memᴰ·head {x = y} e) = rw (eq-eqb x y e)
+true-member {x} (List·Memᴰ·tail {x = y} {xs = ys} m) =
+    ⊎-elim (λ (e : x ≡ y). rw (eq-eqb x y e)) (λ (d : x ≡ y → ⊥). rw (ne-eqb x y d) (true-member m)) (same-or-not x y)
+
+pub member-false : (x : ℕ) (xs : List ℕ) → member x xs ≡ false → x ∈ xs → ⊥
+member-false x xs h m = not-both (true-member m) h
+
+pub false-member : (x : ℕ) (xs : List ℕ) → (x ∈ xs → ⊥) → member x xs ≡ false
+false-member x xs h = ⊎-elim (λ t. absurd (h (member-true x xs t))) (λ f. f) (true-or-false (member x xs))
+
+pub in-or-out : (x : ℕ) (xs : List ℕ) → (x ∈ xs) ⊎ (x ∈ xs → ⊥)
+in-or-out x xs = ⊎-elim (λ t. inl (member-true x xs t)) (λ f. inr (member-false x xs f)) (true-or-false (member x xs))
+
+pub ∈-subst : {x y : ℕ} {xs : List ℕ} → x ≡ y → x ∈ xs → y ∈ xs
+∈-subst e m = Memᴰ·cast (sym e) m
+
+-- keep
+
+module _ (test : ℕ → Bool) where
+  pub keep-yes : (x : ℕ) (xs : List ℕ) → test x ≡ true → keep test (x ∷ xs) ≡ x ∷ keep test xs
+  unfolding keep
+  keep-yes x xs h = rw h
+
+  pub keep-no : (x : ℕ) (xs : List ℕ) → test x ≡ false → keep test (x ∷ xs) ≡ keep test xs
+  unfolding keep
+  keep-no x xs h = rw h
+
+  pub in-keep : {x : ℕ} {xs : List ℕ} → x ∈ xs → test x ≡ true → x ∈ keep test xs
+  unfolding keep
+  in-keep {x} (List·Memᴰ·head {x = y} {xs = ys} e) t = rw (keep-yes y ys (rw e at t)) (List·Memᴰ·head e)
+  in-keep {x} (List·Memᴰ·tail {x = y} {xs = ys} m) t =
+      ⊎-elim (λ (h : test y ≡ true). rw (keep-yes y ys h) (List·Memᴰ·tail (in-keep m t)))
+      (λ (h : test y ≡ false). rw (keep-no y ys h) (in-keep m t))
+      (true-or-false (test y))
+
+  pub keep-in : (x : ℕ) (xs : List ℕ) → x ∈ keep test xs → (x ∈ xs) × (test x ≡ true)
+  unfolding keep
+  keep-in x [] m = absurd (List·Memᴰ·not-nil m)
+  keep-in x (y ∷ ys) m =
+      ⊎-elim
+      (λ (h : test y ≡ true).
+      ⊎-elim (λ (e : x ≡ y). (List·Memᴰ·head e, rw e h))
+      (λ (m′ : x ∈ keep test ys). (List·Memᴰ·tail (keep-in x ys m′ .0), keep-in x ys m′ .1))
+      (List·Memᴰ·cases-cons (rw (keep-yes y ys h) at m)))
+      (λ (h : test y ≡ false). (List·Memᴰ·tail (keep-in x ys (rw (keep-no y ys h) at m) .0), keep-in x ys (rw (keep-no y ys h) at m) .1))
+      (true-or-false (test y))
+
+-- map and gather
+
+pub in-map : (f : ℕ → ℕ) {x : ℕ} {xs : List ℕ} → x ∈ xs → f x ∈ map f xs
+in-map f (List·Memᴰ·head e) = List·Memᴰ·head (ap f e)
+in-map f (List·Memᴰ·tail m) = List·Memᴰ·tail (in-map f m)
+
+pub map-in : (f : ℕ → ℕ) (y : ℕ) (xs : List ℕ) → y ∈ map f xs → (x : ℕ) × (x ∈ xs) × (y ≡ f x)
+map-in f y [] m = absurd (List·Memᴰ·not-nil m)
+map-in f y (x ∷ xs) m =
+    ⊎-elim (λ (e : y ≡ f x). (x, List·Memᴰ·head refl, e))
+    (λ (m′ : y ∈ map f xs). let r = map-in f y xs m′ in (r .0, List·Memᴰ·tail (r .1), r .2))
+    (List·Memᴰ·cases-cons m)
+
+pub in-gather : (f : ℕ → List ℕ) {x y : ℕ} {xs : List ℕ} → x ∈ xs → y ∈ f x → y ∈ gather f xs
+unfolding gather
+in-gather f {x} {y} (List·Memᴰ·head {x = z} {xs = zs} e) m = Memᴰ·append-left (gather f zs) (rw e at m)
+in-gather f (List·Memᴰ·tail {x = z} m′) m = Memᴰ·append-right (f z) (in-gather f m′ m)
+
+pub gather-in : (f : ℕ → List ℕ) (y : ℕ) (xs : List ℕ) → y ∈ gather f xs → (x : ℕ) × (x ∈ xs) × (y ∈ f x)
+unfolding gather
+gather-in f y [] m = absurd (List·Memᴰ·not-nil m)
+gather-in f y (x ∷ xs) m =
+    ⊎-elim (λ (m′ : y ∈ f x). (x, List·Memᴰ·head refl, m′))
+    (λ (m′ : y ∈ gather f xs). let r = gather-in f y xs m′ in (r .0, List·Memᴰ·tail (r .1), r .2))
+    (List·Memᴰ·append-cases (f x) m)
+
+-- upto
+
+pub in-upto : (k : ℕ) {x : ℕ} → x < k → x ∈ upto k
+unfolding upto
+in-upto zero h = absurd (omega arith)
+in-upto (suc k) {x} h =
+    ⊎-elim (λ (e : x ≡ k). Memᴰ·append-right (upto k) (List·Memᴰ·head e))
+    (λ (d : x ≡ k → ⊥). Memᴰ·append-left (k ∷ []) (in-upto k (omega arith)))
+    (same-or-not x k)
+
+pub upto-in : (k x : ℕ) → x ∈ upto k → x < k
+unfolding upto
+upto-in zero x m = absurd (List·Memᴰ·not-nil m)
+upto-in (suc k) x m =
+    ⊎-elim (λ (m′ : x ∈ upto k). let h = upto-in k x m′ in omega arith)
+    (λ (m′ : x ∈ (k ∷ [])). let e = List·Memᴰ·eq-of-singleton m′ in omega arith)
+    (List·Memᴰ·append-cases (upto k) m)
+
+-- largest
+
+pub at-most-largest : {x : ℕ} {xs : List ℕ} → x ∈ xs → x ≤ largest xs
+unfolding largest
+at-most-largest {x} (List·Memᴰ·head {x = y} {xs = ys} e) = omega (arith, le-max-left y (largest ys))
+at-most-largest {x} (List·Memᴰ·tail {x = y} {xs = ys} m) = let h = at-most-largest m in omega (arith, le-max-right y (largest ys))
+
+pub largest-stands : (xs : List ℕ) → (largest xs ≡ 0) ⊎ (largest xs ∈ xs)
+unfolding largest
+largest-stands [] = inl refl
+largest-stands (x ∷ xs) =
+    ⊎-elim (λ (e : largest xs ≡ 0). inr (List·Memᴰ·head (omega arith)))
+    (λ (m : largest xs ∈ xs).
+    elim (decLe x (largest xs)) [
+      | yes h ↦ inr (List·Memᴰ·tail (∈-subst (omega arith) m))
+      | no h ↦ inr (List·Memᴰ·head (omega arith))
+    ])
+    (largest-stands xs)
+
+-- total
+
+pub total-append : (f : ℕ → ℕ) (xs ys : List ℕ) → total f (xs ++ ys) ≡ total f xs + total f ys
+unfolding total
+total-append f [] ys = omega arith
+total-append f (x ∷ xs) ys = let e = total-append f xs ys in omega arith
+
+pub total-in : (f : ℕ → ℕ) {x : ℕ} {xs : List ℕ} → x ∈ xs → f x ≤ total f xs
+unfolding total
+total-in f {x} (List·Memᴰ·head {x = y} {xs = ys} e) = omega (arith, ap f e)
+total-in f (List·Memᴰ·tail m) = let h = total-in f m in omega arith
+
+-- distinct
+
+pub distinct-append : {xs ys : List ℕ} → Distinct xs → Distinct ys → ((x : ℕ) → x ∈ xs → x ∈ ys → ⊥) → Distinct (xs ++ ys)
+distinct-append none d apart = d
+distinct-append {ys = ys} (more {x = x} {xs = xs} h d′) d apart =
+    more
+    (λ (m : x ∈ (xs ++ ys)).
+    ⊎-elim (λ (m′ : x ∈ xs). h m′) (λ (m′ : x ∈ ys). apart x (List·Memᴰ·head refl) m′)
+    (List·Memᴰ·append-cases xs m))
+    (distinct-append d′ d (λ y m m′. apart y (List·Memᴰ·tail m) m′))
+
+pub distinct-upto : (k : ℕ) → Distinct (upto k)
+unfolding upto
+distinct-upto zero = none
+distinct-upto (suc k) =
+    distinct-append (distinct-upto k) (more List·Memᴰ·not-nil none)
+    (λ x m m′. let h = upto-in k x m in let e = List·Memᴰ·eq-of-singleton m′ in omega arith)
+
+pub distinct-keep : (test : ℕ → Bool) {xs : List ℕ} → Distinct xs → Distinct (keep test xs)
+unfolding keep
+distinct-keep test none = none
+distinct-keep test (more {x = x} {xs = xs} h d) =
+    ⊎-elim
+    (λ (t : test x ≡ true). rw (keep-yes test x xs t) (more (λ m. h (keep-in test x xs m .0)) (distinct-keep test d)))
+    (λ (t : test x ≡ false). rw (keep-no test x xs t) (distinct-keep test d))
+    (true-or-false (test x))
