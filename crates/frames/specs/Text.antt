@@ -1,0 +1,61 @@
+-- Document 01, "Frames": text, lines, digits, numbers.
+use Prim.Native.Nat.{ℕ, zero, suc, _+_, _*_, _-_}
+use mathlib.Core.Bool.{Bool, true, false, cond, not, _&&_, _||_}
+use mathlib.Core.List.{List, [], _∷_, map}
+use lib.ListN.{length, getD, drop}
+use lib.Dec.{leb, ltb, eqb}
+
+-- the line feed, 0A
+abbrev pub line-feed : ℕ
+line-feed = 10
+
+-- "Text is lines of hexadecimal .., one frame a line, each ended by a line feed (0A) and nothing else." What follows the
+-- last line feed, if anything does, is a line that is not ended.
+pub record Line : Type 0 where
+  pub digits : List ℕ
+  pub ended : Bool
+
+-- a byte put in front of the first line
+unfoldable pub begin : ℕ → List Line → List Line
+begin b [] = record { digits = b ∷ []; ended = false } ∷ []
+begin b (l ∷ ls) = record { digits = b ∷ l .digits; ended = l .ended } ∷ ls
+
+unfoldable pub lines : List ℕ → List Line
+unfolding begin
+lines [] = []
+lines (b ∷ bs) = cond (eqb b line-feed) (record { digits = []; ended = true } ∷ lines bs) (begin b (lines bs))
+
+-- "digits 0-9 and A-F": what a byte counts for as a digit, 16 if it is none.
+unfoldable pub digit : ℕ → ℕ
+digit b = cond (leb 48 b && leb b 57) (b - 48) (cond (leb 65 b && leb b 70) (b - 55) 16)
+
+unfoldable pub all-digits : List ℕ → Bool
+unfolding digit
+all-digits [] = true
+all-digits (b ∷ bs) = ltb (digit b) 16 && all-digits bs
+
+-- "an even number"
+unfoldable pub even : List ℕ → Bool
+even [] = true
+even (a ∷ []) = false
+even (a ∷ b ∷ ds) = even ds
+
+-- the bytes that the digits of a line spell
+unfoldable pub bytes : List ℕ → List ℕ
+unfolding digit
+bytes [] = []
+bytes (a ∷ []) = []
+bytes (a ∷ b ∷ ds) = (16 * digit a + digit b) ∷ bytes ds
+
+-- "Numbers are big-endian."
+unfoldable pub word-at : List ℕ → ℕ → ℕ
+word-at bs i = 256 * getD bs i 0 + getD bs (i + 1) 0
+
+unfoldable pub long-at : List ℕ → ℕ → ℕ
+unfolding word-at
+long-at bs i = 65_536 * word-at bs i + word-at bs (i + 2)
+
+unfoldable pub words : List ℕ → List ℕ
+words [] = []
+words (a ∷ []) = []
+words (a ∷ b ∷ bs) = (256 * a + b) ∷ words bs

@@ -1,0 +1,4 @@
+-- Document 01, "Frames" and "Refusal numbers", for a whole text; rows, and the text that they spell.
+pub mod Reading
+pub mod Rows
+pub mod Spelling

@@ -1,0 +1,1 @@
+// A network's text read into rows, and rows written as text.
