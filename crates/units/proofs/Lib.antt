@@ -1,0 +1,2 @@
+pub mod Makers
+pub mod Unique

@@ -1,0 +1,63 @@
+-- What each function of `units` answers. The ceilings are the model's, so that the code's constants, which the makers
+-- test against, cannot drift from them. "An area is never added to or compared with a time": no definition takes both.
+use Prim.Native.Nat.{ℕ, _+_, _-_, _^_, min, max}
+use mathlib.Core.Bool.{Bool, cond}
+use lib.Dec.{leb, ltb}
+use Rattle.model.specs.Ceilings.{most-gates, most-fanins, most-weight, most-delay}
+use Rattle.units.specs.declared.Cells.{Cells}
+use Rattle.units.specs.declared.Ticks.{Ticks}
+use Rattle.units.specs.declared.GateNumber.{GateNumber}
+use Rattle.units.specs.declared.FanInCount.{FanInCount}
+use Rattle.units.specs.declared.Weighed.{Weighed}
+use Rattle.units.specs.declared.Weighed.the-variants as weight
+use Rattle.units.specs.declared.Delayed.{Delayed}
+use Rattle.units.specs.declared.Delayed.the-variants as delay
+use Rattle.units.specs.declared.Numbered.{Numbered}
+use Rattle.units.specs.declared.Numbered.the-variants as number
+use Rattle.units.specs.declared.Counted.{Counted}
+use Rattle.units.specs.declared.Counted.the-variants as count
+
+-- So many cells; so many ticks.
+abbrev pub cells : ℕ → Cells
+cells n = record { 0 = n }
+
+abbrev pub ticks : ℕ → Ticks
+ticks n = record { 0 = n }
+
+-- A maker's answer: the number made where it is within its ceiling, and otherwise that it is above it.
+-- "Weight, delay and D 0 to 65,535."
+abbrev pub weighed : ℕ → Weighed
+weighed x = cond (leb x most-weight) (weight.Made (cells x)) weight.Above
+
+abbrev pub delayed : ℕ → Delayed
+delayed x = cond (leb x most-delay) (delay.Made (ticks x)) delay.Above
+
+-- "Gates 1 to 512", "numbered from 0": the gate numbers are those below the ceiling.
+abbrev pub numbered : ℕ → Numbered
+numbered x = cond (ltb x most-gates) (number.Made (record { 0 = x })) number.Above
+
+-- "Fan-ins 0 to 8."
+abbrev pub counted : ℕ → Counted
+counted x = cond (leb x most-fanins) (count.Made (record { 0 = x })) count.Above
+
+-- The sum of two numbers as 64 bits hold it: what is above the largest of them is that largest.
+abbrev pub held-sum : ℕ → ℕ → ℕ
+held-sum a b = min (a + b) (2 ^ 64 - 1)
+
+-- "Weights and the capacity M count cells." In a cluster "the summed weight .. is at most M".
+abbrev pub area-sum : Cells → Cells → ℕ
+area-sum a b = held-sum (a .0) (b .0)
+
+abbrev pub fits : Cells → Cells → Bool
+fits a capacity = leb (a .0) (capacity .0)
+
+-- "Delays, labels and the hop delay D count ticks." "Pull = label of u + onward delay"; a label is "the larger of" two
+-- times; gates are taken "by pull, larger first".
+abbrev pub time-sum : Ticks → Ticks → ℕ
+time-sum a b = held-sum (a .0) (b .0)
+
+abbrev pub larger-of : Ticks → Ticks → ℕ
+larger-of a b = max (a .0) (b .0)
+
+abbrev pub exceeds : Ticks → Ticks → Bool
+exceeds a b = ltb (b .0) (a .0)

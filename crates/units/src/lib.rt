@@ -1,0 +1,159 @@
+// Quantities of a network, each a type of its own. Cells measure area: a weight, the capacity M, a sum of weights.
+// Ticks measure time: a delay, a label, a pull, the hop delay D. No function here takes one of each, so an area is
+// never added to or compared with a time. Gate numbers and fan-in counts are the two plain numbers with a ceiling.
+// Each of the four ceilings stands once, on the type that it bounds; the type's maker refuses what lies above it.
+ghost use mathlib.Core.Path.{_≡_};
+ghost use Rattle.units.specs.Units.{
+  weighed,
+  delayed,
+  numbered,
+  counted,
+  held-sum,
+  area-sum,
+  time-sum,
+  larger-of,
+  fits,
+  exceeds,
+};
+
+// a + b, or the largest number that 64 bits hold where the sum is above it.
+fn held_sum(a: u64, b: u64) -> u64
+    ensures { λ r. ⌜ r ≡ held-sum a b ⌝ }
+{
+    if b <= u64::MAX - a { a + b } else { u64::MAX }
+}
+
+// An area, in cells.
+pub struct Cells(pub u64);
+
+// What making a weight gives.
+pub enum Weighed {
+    Made(Cells),
+    Above,
+}
+
+impl Cells {
+    // A gate frame has two bytes for a weight.
+    pub const MOST_WEIGHT: u64 = 65_535;
+
+    // The weight x, unless it is above the ceiling.
+    pub fn weight(x: u64) -> Weighed
+        ensures { λ r. ⌜ r ≡ weighed x ⌝ }
+    {
+        if x <= Self::MOST_WEIGHT {
+            Weighed::Made(Cells(x))
+        } else {
+            Weighed::Above
+        }
+    }
+
+    // Both areas together, held at the largest number of 64 bits.
+    pub fn plus(self, other: Cells) -> Cells
+        ensures { λ r. ⌜ r .0 ≡ area-sum self other ⌝ }
+    {
+        Cells(held_sum(self.0, other.0))
+    }
+
+    // Whether this area is at most that capacity.
+    pub fn within(self, capacity: Cells) -> bool
+        ensures { λ r. ⌜ r ≡ fits self capacity ⌝ }
+    {
+        self.0 <= capacity.0
+    }
+}
+
+// A time, in ticks.
+pub struct Ticks(pub u64);
+
+// What making a delay gives.
+pub enum Delayed {
+    Made(Ticks),
+    Above,
+}
+
+impl Ticks {
+    // A gate frame has two bytes for a delay.
+    pub const MOST_DELAY: u64 = 65_535;
+
+    // The delay x, unless it is above the ceiling.
+    pub fn delay(x: u64) -> Delayed
+        ensures { λ r. ⌜ r ≡ delayed x ⌝ }
+    {
+        if x <= Self::MOST_DELAY {
+            Delayed::Made(Ticks(x))
+        } else {
+            Delayed::Above
+        }
+    }
+
+    // One time after the other, held at the largest number of 64 bits.
+    pub fn plus(self, other: Ticks) -> Ticks
+        ensures { λ r. ⌜ r .0 ≡ time-sum self other ⌝ }
+    {
+        Ticks(held_sum(self.0, other.0))
+    }
+
+    // The larger of two times.
+    pub fn larger(self, other: Ticks) -> Ticks
+        ensures { λ r. ⌜ r .0 ≡ larger-of self other ⌝ }
+    {
+        if self.0 <= other.0 { other } else { self }
+    }
+
+    // Whether this time is larger than the other, and not equal to it.
+    pub fn above(self, other: Ticks) -> bool
+        ensures { λ r. ⌜ r ≡ exceeds self other ⌝ }
+    {
+        other.0 < self.0
+    }
+}
+
+// The number of a gate, counted from 0 in the order of the text.
+pub struct GateNumber(pub usize);
+
+// What making a gate number gives.
+pub enum Numbered {
+    Made(GateNumber),
+    Above,
+}
+
+impl GateNumber {
+    // A network has at most so many gates: the numbers are those below it.
+    pub const MOST_GATES: usize = 512;
+
+    // The gate number x, unless no network has a gate of that number.
+    pub fn new(x: usize) -> Numbered
+        ensures { λ r. ⌜ r ≡ numbered x ⌝ }
+    {
+        if x < Self::MOST_GATES {
+            Numbered::Made(GateNumber(x))
+        } else {
+            Numbered::Above
+        }
+    }
+}
+
+// How many fan-ins a gate has.
+pub struct FanInCount(pub usize);
+
+// What making a fan-in count gives.
+pub enum Counted {
+    Made(FanInCount),
+    Above,
+}
+
+impl FanInCount {
+    // A gate reads at most so many others.
+    pub const MOST: usize = 8;
+
+    // The fan-in count x, unless it is above the ceiling.
+    pub fn new(x: usize) -> Counted
+        ensures { λ r. ⌜ r ≡ counted x ⌝ }
+    {
+        if x <= Self::MOST {
+            Counted::Made(FanInCount(x))
+        } else {
+            Counted::Above
+        }
+    }
+}
