@@ -8,13 +8,11 @@ use lib.ListN.{length, getD, drop}
 use lib.Dec.{leb, ltb, eqb}
 use Rattle.model.specs.Ceilings.{most-gates, most-fanins}
 use Rattle.model.specs.Network.{Gate}
+use Rattle.frames.specs.declared.Place.{Place}
+use Rattle.frames.specs.declared.Place.the-variants.{Opening, AfterGates, Closed}
 use Rattle.frames.specs.Text.{Line, all-digits, even, bytes, word-at, long-at, words}
 
--- What stood before a line: "A network is one 01, its 02 frames, one 0F."
-pub data Place : Type 0 where
-  opening : Place
-  after-gates : ℕ → Place
-  closed : Place
+-- What stood before a line is a `Place`: "A network is one 01, its 02 frames, one 0F."
 
 -- "Bytes after the type", the type first.
 unfoldable pub kind : Line → ℕ
@@ -46,10 +44,11 @@ gate-fanins l = words (drop 6 (bytes (l .digits)))
 unfoldable pub gate-of : Line → Gate
 unfolding bytes word-at gate-fanins
 gate-of l =
-    record
-      { weight = word-at (bytes (l .digits)) 1;
-        delay = word-at (bytes (l .digits)) 3;
-        fanins = gate-fanins l }
+    record {
+      weight = word-at (bytes (l .digits)) 1;
+      delay = word-at (bytes (l .digits)) 3;
+      fanins = gate-fanins l;
+    }
 
 -- "0F end: number of gates (2)"
 unfoldable pub end-count : Line → ℕ
@@ -68,9 +67,9 @@ malformed p l = none-there (l .digits) || not (all-digits (l .digits)) || not (e
 -- 3: "unknown or misplaced type"
 unfoldable pub misplaced : Place → Line → Bool
 unfolding kind
-misplaced opening l = not (eqb (kind l) 0x01)
-misplaced (after-gates g) l = not (eqb (kind l) 0x02 || eqb (kind l) 0x0F)
-misplaced closed l = true
+misplaced Opening l = not (eqb (kind l) 0x01)
+misplaced (AfterGates g) l = not (eqb (kind l) 0x02 || eqb (kind l) 0x0F)
+misplaced Closed l = true
 
 -- 4: "frame length wrong for its type or count, or count above 8"
 unfoldable pub wrong-length : Place → Line → Bool
@@ -84,9 +83,9 @@ wrong-length p l =
 -- 5: "a 513th gate"
 unfoldable pub one-too-many : Place → Line → Bool
 unfolding kind
-one-too-many opening l = false
-one-too-many (after-gates g) l = eqb (kind l) 0x02 && leb most-gates g
-one-too-many closed l = false
+one-too-many Opening l = false
+one-too-many (AfterGates g) l = eqb (kind l) 0x02 && leb most-gates g
+one-too-many Closed l = false
 
 -- 6: "fan-in not rising or not below its gate"
 unfoldable pub rising-from : ℕ → ℕ → List ℕ → Bool
@@ -95,23 +94,23 @@ rising-from least bound (x ∷ xs) = leb least x && ltb x bound && rising-from (
 
 unfoldable pub unordered : Place → Line → Bool
 unfolding kind rising-from gate-fanins
-unordered opening l = false
-unordered (after-gates g) l = eqb (kind l) 0x02 && not (rising-from 0 g (gate-fanins l))
-unordered closed l = false
+unordered Opening l = false
+unordered (AfterGates g) l = eqb (kind l) 0x02 && not (rising-from 0 g (gate-fanins l))
+unordered Closed l = false
 
 -- 7: "0F count differs"
 unfoldable pub miscounted : Place → Line → Bool
 unfolding kind end-count
-miscounted opening l = false
-miscounted (after-gates g) l = eqb (kind l) 0x0F && not (eqb (end-count l) g)
-miscounted closed l = false
+miscounted Opening l = false
+miscounted (AfterGates g) l = eqb (kind l) 0x0F && not (eqb (end-count l) g)
+miscounted Closed l = false
 
 -- 8: "0F with no gates before it"
 unfoldable pub no-gates : Place → Line → Bool
 unfolding kind
-no-gates opening l = false
-no-gates (after-gates g) l = eqb (kind l) 0x0F && eqb g 0
-no-gates closed l = false
+no-gates Opening l = false
+no-gates (AfterGates g) l = eqb (kind l) 0x0F && eqb g 0
+no-gates Closed l = false
 
 pub record Row : Type 0 where
   pub number : ℕ
@@ -142,6 +141,6 @@ fault p l = lowest table p l
 -- where the next line stands, after a line without fault
 unfoldable pub next-place : Place → Line → Place
 unfolding kind
-next-place opening l = after-gates 0
-next-place (after-gates g) l = cond (eqb (kind l) 0x02) (after-gates (suc g)) closed
-next-place closed l = closed
+next-place Opening l = AfterGates 0
+next-place (AfterGates g) l = cond (eqb (kind l) 0x02) (AfterGates (suc g)) Closed
+next-place Closed l = Closed

@@ -7,7 +7,9 @@ use lib.ListN.{length}
 use lib.Dec.{ltb, eqb}
 use Rattle.model.specs.Network.{Gate, Network, size}
 use Rattle.frames.specs.Text.{Line, lines}
-use Rattle.frames.specs.Table.{Place, opening, after-gates, closed, kind, fault, next-place, header-capacity, header-hop, gate-of}
+use Rattle.frames.specs.declared.Place.{Place}
+use Rattle.frames.specs.declared.Place.the-variants.{Opening, AfterGates, Closed}
+use Rattle.frames.specs.Table.{kind, fault, next-place, header-capacity, header-hop, gate-of}
 
 -- "Text 24,576 bytes."
 abbrev pub most-text : ℕ
@@ -33,15 +35,15 @@ with-gate n l = record { capacity = n .capacity; hop = n .hop; gates = n .gates 
 -- what a line without fault adds to the network read so far
 unfoldable pub take-in : Network → Place → Line → Network
 unfolding with-header with-gate kind
-take-in n opening l = with-header n l
-take-in n (after-gates g) l = cond (eqb (kind l) 0x02) (with-gate n l) n
-take-in n closed l = n
+take-in n Opening l = with-header n l
+take-in n (AfterGates g) l = cond (eqb (kind l) 0x02) (with-gate n l) n
+take-in n Closed l = n
 
 -- "A missing 0F comes after all lines", told at "lines + 1".
 unfoldable pub at-the-end : Place → ℕ → Network → Reading
-at-the-end opening at n = refused 3 at
-at-the-end (after-gates g) at n = refused 3 at
-at-the-end closed at n = network n
+at-the-end Opening at n = refused 3 at
+at-the-end (AfterGates g) at n = refused 3 at
+at-the-end Closed at n = network n
 
 -- a fault is told at its line; without one reading goes on
 unfoldable pub unless : Option ℕ → ℕ → Reading → Reading
@@ -71,4 +73,4 @@ weigh (network n) = told-heavy (first-heavy (n .capacity) 2 (n .gates)) n
 -- "Order: 1 first. Then 2 to 8 .. Then 9": 1 is "text above 24,576 bytes", line 0.
 unfoldable pub reading : List ℕ → Reading
 unfolding weigh walk nothing-read lines
-reading text = cond (ltb most-text (length text)) (refused 1 0) (weigh (walk opening 1 nothing-read (lines text)))
+reading text = cond (ltb most-text (length text)) (refused 1 0) (weigh (walk Opening 1 nothing-read (lines text)))

@@ -37,11 +37,12 @@ answer text rows = in-room rows (reading text)
 -- one gate put into its places, the other places kept
 unfoldable pub put : ℕ → Gate → Rows → Rows
 put v g rows =
-    record
-      { weights = set (rows .weights) v (g .weight);
-        delays = set (rows .delays) v (g .delay);
-        counts = set (rows .counts) v (length (g .fanins));
-        fanins = sets (rows .fanins) (most-fanins * v) (g .fanins) }
+    record {
+      weights = set (rows .weights) v (g .weight);
+      delays = set (rows .delays) v (g .delay);
+      counts = set (rows .counts) v (length (g .fanins));
+      fanins = sets (rows .fanins) (most-fanins * v) (g .fanins);
+    }
 
 unfoldable pub fill : ℕ → List Gate → Rows → Rows
 unfolding put
@@ -57,10 +58,11 @@ filled (network n) rows = fill 0 (n .gates) rows
 -- the gate that stands in the rows at v
 unfoldable pub row-gate : Rows → ℕ → Gate
 row-gate rows v =
-    record
-      { weight = getD (rows .weights) v 0;
-        delay = getD (rows .delays) v 0;
-        fanins = take (min (getD (rows .counts) v 0) most-fanins) (drop (most-fanins * v) (rows .fanins)) }
+    record {
+      weight = getD (rows .weights) v 0;
+      delay = getD (rows .delays) v 0;
+      fanins = take (min (getD (rows .counts) v 0) most-fanins) (drop (most-fanins * v) (rows .fanins));
+    }
 
 -- the network that stands in the rows
 unfoldable pub rows-network : ℕ → ℕ → ℕ → Rows → Network
