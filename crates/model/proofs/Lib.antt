@@ -2,4 +2,5 @@ pub mod Lists
 pub mod Networks
 pub mod Paths
 pub mod Order
+pub mod Growth
 pub mod Examples
