@@ -1,4 +1,5 @@
 pub mod Lists
 pub mod Networks
 pub mod Paths
+pub mod Outputs
 pub mod Examples
