@@ -2,4 +2,5 @@ pub mod Lists
 pub mod Networks
 pub mod Paths
 pub mod Outputs
+pub mod Drawn
 pub mod Examples

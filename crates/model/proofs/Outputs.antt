@@ -2,10 +2,10 @@
 use Prim.Native.Nat.{ℕ, zero, suc, _+_, _≤_, _<_}
 use mathlib.Core.Path.{_≡_, refl}
 use mathlib.Core.Logic.{_⊎_, inl, inr, ⊎-elim}
-use mathlib.Core.Bool.{Bool, true, false}
+use mathlib.Core.Bool.{true, false}
 use mathlib.Core.List.{List, [], _∷_, List·Memᴰ·head, List·Memᴰ·not-nil}
 use native.Mathlib.Omega.{arith}
-use Rattle.model.specs.Basics.{_∈_, member, keep, upto}
+use Rattle.model.specs.Basics.{_∈_, member, upto}
 use Rattle.model.specs.Network.{Network, size, delay, fanins, empty, Output, read-by, outputs, position, WellFormed}
 use Rattle.model.specs.Onward.{InCone}
 use Rattle.model.proofs.Lists.{not-both, member-true, true-member, in-keep, keep-in, in-upto, upto-in}
