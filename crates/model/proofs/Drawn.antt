@@ -43,7 +43,7 @@ unfolding mark
 length-mark row [] = refl
 length-mark row (x ∷ xs) = length-mark (set row x 1) xs ∙ length-set row x 1
 
--- "marks are never taken away"
+-- a mark is never taken away
 mark-keeps : (row xs : List ℕ) (y : ℕ) → Marked row y → Marked (mark row xs) y
 unfolding mark
 mark-keeps row [] y h = h
@@ -109,7 +109,7 @@ module _ (n : Network) (l : List ℕ) where
       go true = length-mark row (inputs n l r)
       go false = refl
 
-  length-select : (p : ℕ) (row : List ℕ) → length (select n l p row) ≡ length row
+  pub length-select : (p : ℕ) (row : List ℕ) → length (select n l p row) ≡ length row
   unfolding select visit
   length-select zero row = refl
   length-select (suc p) row = length-select p (visit row (gate-at n p)) ∙ length-visit row (gate-at n p)

@@ -3,4 +3,6 @@ pub mod Networks
 pub mod Paths
 pub mod Outputs
 pub mod Drawn
+pub mod Largest
+pub mod CopyDelay
 pub mod Examples
