@@ -5,4 +5,5 @@ pub mod Outputs
 pub mod Drawn
 pub mod Largest
 pub mod CopyDelay
+pub mod Clusterings
 pub mod Examples

@@ -184,3 +184,65 @@ distinct-keep test (more {x = x} {xs = xs} h d) =
     (λ (t : test x ≡ true). rw (keep-yes test x xs t) (more (λ m. h (keep-in test x xs m .0)) (distinct-keep test d)))
     (λ (t : test x ≡ false). rw (keep-no test x xs t) (distinct-keep test d))
     (true-or-false (test x))
+
+-- keeping all, nothing, or part by part
+
+module _ (test : ℕ → Bool) where
+  pub keep-all : (xs : List ℕ) → ((x : ℕ) → x ∈ xs → test x ≡ true) → keep test xs ≡ xs
+  unfolding keep
+  keep-all [] h = refl
+  keep-all (x ∷ xs) h =
+      keep-yes test x xs (h x (List·Memᴰ·head refl)) ∙ ap (λ (ys : List ℕ). x ∷ ys) (keep-all xs (λ y m. h y (List·Memᴰ·tail m)))
+
+  pub keep-none : (xs : List ℕ) → ((x : ℕ) → x ∈ xs → test x ≡ false) → keep test xs ≡ []
+  unfolding keep
+  keep-none [] h = refl
+  keep-none (x ∷ xs) h =
+      keep-no test x xs (h x (List·Memᴰ·head refl)) ∙ keep-none xs (λ y m. h y (List·Memᴰ·tail m))
+
+  pub keep-append : (xs ys : List ℕ) → keep test (xs ++ ys) ≡ keep test xs ++ keep test ys
+  unfolding keep
+  keep-append [] ys = refl
+  keep-append (x ∷ xs) ys =
+      ⊎-elim
+      (λ (t : test x ≡ true). rw (keep-yes test x (xs ++ ys) t, keep-yes test x xs t, keep-append xs ys))
+      (λ (t : test x ≡ false). rw (keep-no test x (xs ++ ys) t, keep-no test x xs t, keep-append xs ys))
+      (true-or-false (test x))
+
+-- sums over a map, and of equal values
+
+pub total-map : (g f : ℕ → ℕ) (xs : List ℕ) → total g (map f xs) ≡ total (λ x. g (f x)) xs
+unfolding total
+total-map g f [] = refl
+total-map g f (x ∷ xs) = rw (total-map g f xs)
+
+pub total-same : (g h : ℕ → ℕ) (xs : List ℕ) → ((x : ℕ) → x ∈ xs → g x ≡ h x) → total g xs ≡ total h xs
+unfolding total
+total-same g h [] e = refl
+total-same g h (x ∷ xs) e =
+    omega (arith, e x (List·Memᴰ·head refl), total-same g h xs (λ y m. e y (List·Memᴰ·tail m)))
+
+-- distinct images
+
+pub distinct-map :
+    (f : ℕ → ℕ) {xs : List ℕ} → Distinct xs → ((x y : ℕ) → x ∈ xs → y ∈ xs → f x ≡ f y → x ≡ y) → Distinct (map f xs)
+distinct-map f none tells = none
+distinct-map f (more {x = x} {xs = xs} h d) tells =
+    more
+    (λ (m : f x ∈ map f xs).
+    let w = map-in f (f x) xs m in
+    h (∈-subst (sym (tells x (w .0) (List·Memᴰ·head refl) (List·Memᴰ·tail (w .1)) (w .2))) (w .1)))
+    (distinct-map f d (λ y z m m′. tells y z (List·Memᴰ·tail m) (List·Memᴰ·tail m′)))
+
+pub distinct-gather :
+    (f : ℕ → List ℕ) {xs : List ℕ} → Distinct xs → ((x : ℕ) → x ∈ xs → Distinct (f x))
+    → ((x y z : ℕ) → x ∈ xs → y ∈ xs → z ∈ f x → z ∈ f y → x ≡ y)
+    → Distinct (gather f xs)
+unfolding gather
+distinct-gather f none each tells = none
+distinct-gather f (more {x = x} {xs = xs} h d) each tells =
+    distinct-append (each x (List·Memᴰ·head refl))
+    (distinct-gather f d (λ y m. each y (List·Memᴰ·tail m)) (λ y z u m m′. tells y z u (List·Memᴰ·tail m) (List·Memᴰ·tail m′)))
+    (λ u m m′.
+    let w = gather-in f u xs m′ in
+    h (∈-subst (sym (tells x (w .0) u (List·Memᴰ·head refl) (List·Memᴰ·tail (w .1)) m (w .2))) (w .1)))
