@@ -15,7 +15,7 @@ use Rattle.model.specs.Basics.{_∈_, Distinct, none as no-gate, more, k
 use Rattle.model.specs.Network.{Network, weight, input, position, gate-at}
 use Rattle.model.specs.Onward.{in-cone}
 use Rattle.model.specs.Label.{pull, Before, before, ordered, Growth, joins, grow, growth, joined, stop, cluster}
-use Rattle.model.proofs.Lists.{true-or-false, same-or-not, in-or-out, ∈-subst, keep-in, in-keep, keep-append, keep-all, keep-none, in-map, map-in, in-upto, upto-in, total-append, total-in, total-keep, total-same, distinct-keep, distinct-upto, distinct-front, distinct-map}
+use Rattle.model.proofs.Lists.{true-or-false, same-or-not, in-or-out, ∈-subst, keep-in, in-keep, keep-append, keep-all, keep-none, in-map, map-in, in-upto, upto-in, total-append, total-in, total-keep, total-members, distinct-keep, distinct-upto, distinct-front, distinct-map}
 use Rattle.model.proofs.Networks.{gate-at-position, position-gate-at}
 use Rattle.model.proofs.Order.{Sorted, before-asymmetric, before-irreflexive, before-pull, true-before, before-false, before-total, ordered-in, in-ordered, ordered-sorted, ordered-distinct, sorted-split, sorted-back, sorted-first}
 
@@ -115,7 +115,7 @@ module _ (n : Network) (v : ℕ) where
   pub cone-gates-distinct : Distinct (cone-gates n v)
   unfolding cone-gates
   cone-gates-distinct =
-      distinct-keep (λ x. in-cone n x v) (distinct-map (gate-at n) apart (distinct-upto (position n v)))
+      distinct-keep (λ x. in-cone n x v) (distinct-map (gate-at n) (distinct-upto (position n v)) (λ x y m m′. apart x y))
     where
       apart : (p q : ℕ) → gate-at n p ≡ gate-at n q → p ≡ q
       apart p q e = sym (position-gate-at n p) ∙ ap (position n) e ∙ position-gate-at n q
@@ -319,7 +319,7 @@ module _ (n : Network) (l : List ℕ) (v : ℕ) where
   not-after-total : (u : ℕ) → total (weight n) (not-after n l v u) ≡ total (weight n) (not-after-row u)
   unfolding not-after not-after-row no-later
   not-after-total u =
-      total-same (weight n) (distinct-keep (no-later u) (cone-gates-distinct n v))
+      total-members (weight n) (distinct-keep (no-later u) (cone-gates-distinct n v))
       (distinct-keep (no-later u) (ordered-distinct n l v))
       (λ x m. let (k, t) = keep-in (no-later u) x (cone-gates n v) m in in-keep (no-later u) (cone-gates-ordered x k) t)
       (λ x m. let (k, t) = keep-in (no-later u) x (ordered n l v) m in in-keep (no-later u) (ordered-cone-gates x k) t)
@@ -365,7 +365,7 @@ module _ (n : Network) (l : List ℕ) (v : ℕ) where
       }
     where
       whole-total : total (weight n) (ordered n l v) ≡ total (weight n) (cone-gates n v)
-      whole-total = total-same (weight n) (ordered-distinct n l v) (cone-gates-distinct n v) ordered-cone-gates cone-gates-ordered
+      whole-total = total-members (weight n) (ordered-distinct n l v) (cone-gates-distinct n v) ordered-cone-gates cone-gates-ordered
 
   -- no gate twice
 

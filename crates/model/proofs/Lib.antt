@@ -1,7 +1,12 @@
 pub mod Lists
+pub mod Largest
 pub mod Networks
 pub mod Paths
 pub mod Onward
 pub mod Order
 pub mod Growth
+pub mod Outputs
+pub mod Drawn
+pub mod CopyDelay
+pub mod Clusterings
 pub mod Examples

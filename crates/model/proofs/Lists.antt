@@ -218,11 +218,6 @@ pub distinct-front : (xs ys : List ℕ) → Distinct (xs ++ ys) → Distinct xs
 distinct-front [] ys d = none
 distinct-front (x ∷ xs) ys (more h d) = more (λ m. h (Memᴰ·append-left ys m)) (distinct-front xs ys d)
 
-pub distinct-map : (f : ℕ → ℕ) → ((x y : ℕ) → f x ≡ f y → x ≡ y) → {xs : List ℕ} → Distinct xs → Distinct (map f xs)
-distinct-map f tells none = none
-distinct-map f tells (more {x = x} {xs = xs} h d) =
-    more (λ m. let (y, k, e) = map-in f (f x) xs m in h (∈-subst (sym (tells x y e)) k)) (distinct-map f tells d)
-
 -- A member split out of its list.
 record Around (x : ℕ) (xs : List ℕ) : Type 0 where
   front : List ℕ
@@ -252,7 +247,45 @@ total-within f ys (more {x = x} {xs = xs} out d) h =
         (List·Memᴰ·cases-cons k))
         (List·Memᴰ·append-cases (a .front) (rw (a .split) at (h y (List·Memᴰ·tail m))))
 
-pub total-same :
+pub total-members :
     (f : ℕ → ℕ) {xs ys : List ℕ} → Distinct xs → Distinct ys → ((x : ℕ) → x ∈ xs → x ∈ ys) → ((x : ℕ) → x ∈ ys → x ∈ xs)
     → total f xs ≡ total f ys
-total-same f {xs} {ys} d e h k = omega (arith, total-within f ys d h, total-within f xs e k)
+total-members f {xs} {ys} d e h k = omega (arith, total-within f ys d h, total-within f xs e k)
+
+-- sums over a map, and of equal values
+
+pub total-map : (g f : ℕ → ℕ) (xs : List ℕ) → total g (map f xs) ≡ total (λ x. g (f x)) xs
+unfolding total
+total-map g f [] = refl
+total-map g f (x ∷ xs) = rw (total-map g f xs)
+
+pub total-same : (g h : ℕ → ℕ) (xs : List ℕ) → ((x : ℕ) → x ∈ xs → g x ≡ h x) → total g xs ≡ total h xs
+unfolding total
+total-same g h [] e = refl
+total-same g h (x ∷ xs) e =
+    omega (arith, e x (List·Memᴰ·head refl), total-same g h xs (λ y m. e y (List·Memᴰ·tail m)))
+
+-- distinct images
+
+pub distinct-map :
+    (f : ℕ → ℕ) {xs : List ℕ} → Distinct xs → ((x y : ℕ) → x ∈ xs → y ∈ xs → f x ≡ f y → x ≡ y) → Distinct (map f xs)
+distinct-map f none tells = none
+distinct-map f (more {x = x} {xs = xs} h d) tells =
+    more
+    (λ (m : f x ∈ map f xs).
+    let w = map-in f (f x) xs m in
+    h (∈-subst (sym (tells x (w .0) (List·Memᴰ·head refl) (List·Memᴰ·tail (w .1)) (w .2))) (w .1)))
+    (distinct-map f d (λ y z m m′. tells y z (List·Memᴰ·tail m) (List·Memᴰ·tail m′)))
+
+pub distinct-gather :
+    (f : ℕ → List ℕ) {xs : List ℕ} → Distinct xs → ((x : ℕ) → x ∈ xs → Distinct (f x))
+    → ((x y z : ℕ) → x ∈ xs → y ∈ xs → z ∈ f x → z ∈ f y → x ≡ y)
+    → Distinct (gather f xs)
+unfolding gather
+distinct-gather f none each tells = none
+distinct-gather f (more {x = x} {xs = xs} h d) each tells =
+    distinct-append (each x (List·Memᴰ·head refl))
+    (distinct-gather f d (λ y m. each y (List·Memᴰ·tail m)) (λ y z u m m′. tells y z u (List·Memᴰ·tail m) (List·Memᴰ·tail m′)))
+    (λ u m m′.
+    let w = gather-in f u xs m′ in
+    h (∈-subst (sym (tells x (w .0) u (List·Memᴰ·head refl) (List·Memᴰ·tail (w .1)) m (w .2))) (w .1)))
