@@ -15,7 +15,7 @@ use Rattle.model.specs.Basics.{_∈_, Distinct, none as no-gate, more, k
 use Rattle.model.specs.Network.{Network, weight, input, position, gate-at}
 use Rattle.model.specs.Onward.{in-cone}
 use Rattle.model.specs.Label.{pull, Before, before, ordered, Growth, joins, grow, growth, joined, stop, cluster}
-use Rattle.model.proofs.Lists.{true-or-false, same-or-not, in-or-out, ∈-subst, keep-in, in-keep, keep-append, keep-all, keep-none, in-map, map-in, in-upto, upto-in, total-append, total-in, total-keep, total-members, distinct-keep, distinct-upto, distinct-front, distinct-map}
+use Rattle.model.proofs.Lists.{true-or-false, same-or-not, ∈-subst, keep-in, in-keep, keep-append, keep-all, keep-none, in-map, map-in, in-upto, upto-in, total-append, total-in, total-keep, total-members, distinct-keep, distinct-upto, distinct-front, distinct-map}
 use Rattle.model.proofs.Networks.{gate-at-position, position-gate-at}
 use Rattle.model.proofs.Order.{Sorted, before-asymmetric, before-irreflexive, before-pull, true-before, before-false, before-total, ordered-in, in-ordered, ordered-sorted, ordered-distinct, sorted-split, sorted-back, sorted-first}
 
@@ -239,8 +239,8 @@ module _ (n : Network) (l : List ℕ) (v : ℕ) where
   unfolding joined stop
   stop-overfills s e = of-root .overfills s e
 
-  -- nothing stops growth exactly when the whole cone joins, and that is when it fits: with a root heavier than M and no
-  -- other gate in its cone nothing stops growth either
+  -- Nothing stops growth exactly when the whole cone joins. That is when it fits, but for a root heavier than M that is alone
+  -- in its cone: nothing stops growth there either.
 
   pub none-joined : stop n l v ≡ none → ordered n l v ≡ joined n l v
   none-joined e = splits ∙ rw (head-none outside (sym next ∙ e)) (append-nil (joined n l v))
@@ -253,22 +253,19 @@ module _ (n : Network) (l : List ℕ) (v : ℕ) where
       go (some s) e = absurd (stop-no-member s e (h s (stop-in s e)))
 
   pub fits-none : weight n v + total (weight n) (ordered n l v) ≤ n .capacity → stop n l v ≡ none
-  fits-none h =
-      joined-none
-      (λ u m.
-      ⊎-elim (λ (m′ : u ∈ joined n l v). m′) (λ (out : u ∈ joined n l v → ⊥). absurd (too-much u m out))
-      (in-or-out u (joined n l v)))
+  fits-none h = go (stop n l v) refl
     where
-      too-much : (u : ℕ) → u ∈ ordered n l v → (u ∈ joined n l v → ⊥) → ⊥
-      too-much u m out =
-          let (s, e) = stop-some u m out in
-          omega (
+      go : (o : Option ℕ) → stop n l v ≡ o → o ≡ none
+      go none e = refl
+      go (some s) e =
+          absurd
+          (omega (
             arith,
             stop-overfills s e,
             total-in (weight n) (stop-outside s e),
             ap (total (weight n)) splits,
             total-append (weight n) (joined n l v) outside,
-          )
+          ))
 
   pub stop-none-iff : weight n v ≤ n .capacity → (stop n l v ≡ none) ↔ (weight n v + total (weight n) (ordered n l v) ≤ n .capacity)
   stop-none-iff h = (λ e. rw (none-joined e) (joined-fits h), fits-none)
@@ -277,7 +274,9 @@ module _ (n : Network) (l : List ℕ) (v : ℕ) where
       (u : ℕ) → u ∈ ordered n l v → (stop n l v ≡ none) ↔ (weight n v + total (weight n) (ordered n l v) ≤ n .capacity)
   stop-none-iff-in u m = (λ e. rw (none-joined e) (member-fits u (stop-none e u m)), fits-none)
 
-  -- a member weighs in with all that are not after it
+  -- A gate is a member exactly when the root and the gates not after it fit. The row is the members, then the gates outside,
+  -- the stopping gate first, and every member is before every gate outside. So those not after a member are members, and the
+  -- members fit. Those not after a gate outside hold all members and the stopping gate, and these overfill.
 
   no-later : ℕ → ℕ → Bool
   no-later u x = not (before n l v u x)
@@ -285,7 +284,10 @@ module _ (n : Network) (l : List ℕ) (v : ℕ) where
   not-after-row : ℕ → List ℕ
   not-after-row u = keep (no-later u) (ordered n l v)
 
-  not-after-split : (u : ℕ) → total (weight n) (not-after-row u) ≡ total (weight n) (keep (no-later u) (joined n l v)) + total (weight n) (keep (no-later u) outside)
+  not-after-split :
+      (u : ℕ)
+      → total (weight n) (not-after-row u)
+      ≡ total (weight n) (keep (no-later u) (joined n l v)) + total (weight n) (keep (no-later u) outside)
   unfolding not-after-row
   not-after-split u = rw (splits, keep-append (no-later u) (joined n l v) outside) (total-append (weight n) _ _)
 
@@ -301,11 +303,17 @@ module _ (n : Network) (l : List ℕ) (v : ℕ) where
   row-when u m h =
       ⊎-elim (λ (m′ : u ∈ joined n l v). m′) (λ (o : u ∈ outside). absurd (too-much o)) (member-or-outside u m)
     where
+      not-both-sides : u ∈ outside → u ∈ joined n l v → ⊥
+      not-both-sides o k = before-irreflexive n l v u (members-before u u k o)
+
       too-much : u ∈ outside → ⊥
       too-much o =
-          let (s, e) = stop-some u m (λ k. before-irreflexive n l v u (members-before u u k o)) in
-          let members = keep-all (no-later u) (joined n l v) (λ x k. no-later-when u x (λ b. before-asymmetric n l v b (members-before x u k o))) in
-          let stopping : s ∈ keep (no-later u) outside = in-keep (no-later u) (stop-outside s e) (no-later-when u s (λ b. before-irreflexive n l v u (members-before u u (stop-first s u e m b) o))) in
+          let (s, e) = stop-some u m (not-both-sides o) in
+          let members =
+          keep-all (no-later u) (joined n l v)
+          (λ x k. no-later-when u x (λ b. before-asymmetric n l v b (members-before x u k o))) in
+          let stopping : s ∈ keep (no-later u) outside =
+          in-keep (no-later u) (stop-outside s e) (no-later-when u s (λ b. not-both-sides o (stop-first s u e m b))) in
           omega
           (arith, stop-overfills s e, total-in (weight n) stopping, ap (total (weight n)) members, not-after-split u)
 

@@ -5,6 +5,7 @@ pub mod Paths
 pub mod Onward
 pub mod Order
 pub mod Growth
+pub mod Label
 pub mod Outputs
 pub mod Drawn
 pub mod CopyDelay

@@ -231,7 +231,8 @@ around (List·Memᴰ·tail {x = y} m) =
     record { front = y ∷ a .front; back = a .back; split = ap (λ (r : List ℕ). y ∷ r) (a .split) }
 
 -- A list with no number twice whose members all stand in another sums to at most what the other does.
-pub total-within : (f : ℕ → ℕ) {xs : List ℕ} (ys : List ℕ) → Distinct xs → ((x : ℕ) → x ∈ xs → x ∈ ys) → total f xs ≤ total f ys
+pub total-within :
+    (f : ℕ → ℕ) {xs : List ℕ} (ys : List ℕ) → Distinct xs → ((x : ℕ) → x ∈ xs → x ∈ ys) → total f xs ≤ total f ys
 unfolding total
 total-within f ys none h = omega arith
 total-within f ys (more {x = x} {xs = xs} out d) h =
