@@ -10,4 +10,6 @@ pub mod Outputs
 pub mod Drawn
 pub mod CopyDelay
 pub mod Clusterings
+pub mod LowerBound
+pub mod UpperBound
 pub mod Examples
