@@ -12,4 +12,6 @@ pub mod CopyDelay
 pub mod Clusterings
 pub mod LowerBound
 pub mod UpperBound
+pub mod Drawing
+pub mod Best
 pub mod Examples
