@@ -14,4 +14,6 @@ pub mod LowerBound
 pub mod UpperBound
 pub mod Drawing
 pub mod Best
+pub mod Ceiling
 pub mod Examples
+pub mod Slips

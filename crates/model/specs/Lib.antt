@@ -4,6 +4,7 @@ pub mod Ceilings
 pub mod Network
 pub mod Onward
 pub mod Label
+pub mod Growth
 pub mod Clustering
 pub mod Drawing
 pub mod Best
