@@ -57,84 +57,24 @@ pub record Row : Type 0 where
   pub network : Network
   pub answers : Outcome
 
+unfoldable pub row : Network → ℕ → List ℕ → List ℕ → List (List ℕ) → Row
+row n d ls rs ms = record { network = n; answers = record { delay = d; each-label = ls; roots = rs; inside = ms } }
+
+unfoldable pub alone : List (List ℕ)
+alone = (0 ∷ []) ∷ (1 ∷ []) ∷ (2 ∷ []) ∷ (3 ∷ []) ∷ (4 ∷ []) ∷ []
+
 -- P1 to P6, P8, P9
 unfoldable pub rows : List Row
-unfolding A lone chain
+unfolding row alone A lone chain
 rows =
-    record {
-      network = A 3 4;
-      answers =
-          record {
-            delay = 10;
-            each-label = 1 ∷ 2 ∷ 5 ∷ 3 ∷ 10 ∷ [];
-            roots = 0 ∷ 3 ∷ 4 ∷ [];
-            inside = (0 ∷ []) ∷ (1 ∷ 3 ∷ []) ∷ (1 ∷ 2 ∷ 4 ∷ []) ∷ [];
-          };
-    }
-    ∷ record {
-      network = A 1 4;
-      answers =
-          record {
-            delay = 15;
-            each-label = 1 ∷ 2 ∷ 9 ∷ 7 ∷ 15 ∷ [];
-            roots = 0 ∷ 1 ∷ 2 ∷ 3 ∷ 4 ∷ [];
-            inside = (0 ∷ []) ∷ (1 ∷ []) ∷ (2 ∷ []) ∷ (3 ∷ []) ∷ (4 ∷ []) ∷ [];
-          };
-    }
-    ∷ record {
-      network = A 2 4;
-      answers =
-          record {
-            delay = 11;
-            each-label = 1 ∷ 2 ∷ 8 ∷ 3 ∷ 11 ∷ [];
-            roots = 0 ∷ 1 ∷ 3 ∷ 4 ∷ [];
-            inside = (0 ∷ []) ∷ (1 ∷ []) ∷ (1 ∷ 3 ∷ []) ∷ (2 ∷ 4 ∷ []) ∷ [];
-          };
-    }
-    ∷ record {
-      network = A 4 4;
-      answers =
-          record {
-            delay = 9;
-            each-label = 1 ∷ 2 ∷ 5 ∷ 3 ∷ 9 ∷ [];
-            roots = 3 ∷ 4 ∷ [];
-            inside = (1 ∷ 3 ∷ []) ∷ (0 ∷ 1 ∷ 2 ∷ 4 ∷ []) ∷ [];
-          };
-    }
-    ∷ record {
-      network = A 5 4;
-      answers =
-          record {
-            delay = 7;
-            each-label = 1 ∷ 2 ∷ 5 ∷ 3 ∷ 7 ∷ [];
-            roots = 4 ∷ [];
-            inside = (0 ∷ 1 ∷ 2 ∷ 3 ∷ 4 ∷ []) ∷ [];
-          };
-    }
-    ∷ record {
-      network = A 1 0;
-      answers =
-          record {
-            delay = 7;
-            each-label = 1 ∷ 2 ∷ 5 ∷ 3 ∷ 7 ∷ [];
-            roots = 0 ∷ 1 ∷ 2 ∷ 3 ∷ 4 ∷ [];
-            inside = (0 ∷ []) ∷ (1 ∷ []) ∷ (2 ∷ []) ∷ (3 ∷ []) ∷ (4 ∷ []) ∷ [];
-          };
-    }
-    ∷ record {
-      network = lone;
-      answers = record { delay = 0; each-label = 0 ∷ []; roots = 0 ∷ []; inside = (0 ∷ []) ∷ [] };
-    }
-    ∷ record {
-      network = chain;
-      answers =
-          record {
-            delay = 1;
-            each-label = 0 ∷ 0 ∷ 1 ∷ [];
-            roots = 0 ∷ 2 ∷ [];
-            inside = (0 ∷ []) ∷ (1 ∷ 2 ∷ []) ∷ [];
-          };
-    }
+    row (A 3 4) 10 (1 ∷ 2 ∷ 5 ∷ 3 ∷ 10 ∷ []) (0 ∷ 3 ∷ 4 ∷ []) ((0 ∷ []) ∷ (1 ∷ 3 ∷ []) ∷ (1 ∷ 2 ∷ 4 ∷ []) ∷ [])
+    ∷ row (A 1 4) 15 (1 ∷ 2 ∷ 9 ∷ 7 ∷ 15 ∷ []) (0 ∷ 1 ∷ 2 ∷ 3 ∷ 4 ∷ []) alone
+    ∷ row (A 2 4) 11 (1 ∷ 2 ∷ 8 ∷ 3 ∷ 11 ∷ []) (0 ∷ 1 ∷ 3 ∷ 4 ∷ []) ((0 ∷ []) ∷ (1 ∷ []) ∷ (1 ∷ 3 ∷ []) ∷ (2 ∷ 4 ∷ []) ∷ [])
+    ∷ row (A 4 4) 9 (1 ∷ 2 ∷ 5 ∷ 3 ∷ 9 ∷ []) (3 ∷ 4 ∷ []) ((1 ∷ 3 ∷ []) ∷ (0 ∷ 1 ∷ 2 ∷ 4 ∷ []) ∷ [])
+    ∷ row (A 5 4) 7 (1 ∷ 2 ∷ 5 ∷ 3 ∷ 7 ∷ []) (4 ∷ []) ((0 ∷ 1 ∷ 2 ∷ 3 ∷ 4 ∷ []) ∷ [])
+    ∷ row (A 1 0) 7 (1 ∷ 2 ∷ 5 ∷ 3 ∷ 7 ∷ []) (0 ∷ 1 ∷ 2 ∷ 3 ∷ 4 ∷ []) alone
+    ∷ row lone 0 (0 ∷ []) (0 ∷ []) ((0 ∷ []) ∷ [])
+    ∷ row chain 1 (0 ∷ 0 ∷ 1 ∷ []) (0 ∷ 2 ∷ []) ((0 ∷ []) ∷ (1 ∷ 2 ∷ []) ∷ [])
     ∷ []
 
 -- "Gate 4: pulls of 2 and 1 are both 7, of 0 it is 6, of 3 it is 5; gate 0 stops growth, so the label is 6 + 4."
