@@ -1,4 +1,6 @@
 pub mod Tests
 pub mod Digits
 pub mod Lines
+pub mod Frames
+pub mod Faultless
 pub mod Examples
