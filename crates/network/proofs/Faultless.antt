@@ -19,7 +19,7 @@ use Rattle.frames.specs.declared.Place.{Place}
 use Rattle.frames.specs.declared.Place.the-variants.{Opening, AfterGates, Closed}
 use Rattle.frames.specs.Table.{kind, frame-length, header-capacity, header-hop, gate-count, gate-fanins, gate-of, end-count, none-there, malformed, misplaced, wrong-length, one-too-many, rising-from, unordered, miscounted, no-gates, Row, table, lowest, fault}
 use Rattle.network.specs.Spelling.{byte-digits, spell-line, header-bytes, gate-bytes, end-bytes}
-use Rattle.network.proofs.Tests.{never, both-true, neither-true}
+use Rattle.network.proofs.Tests.{never, neither-true, passed}
 use Rattle.network.proofs.Digits.{Below, digits-bytes, bytes-below, length-words, words-below, word-below, long-below}
 use Rattle.network.proofs.Lines.{line-text}
 use Rattle.network.proofs.Frames.{header-again, gate-again, end-again}
@@ -33,10 +33,6 @@ record Faultless (p : Place) (l : Line) : Type 0 where
   in-order : unordered p l ≡ false
   well-told : miscounted p l ≡ false
   some-before : no-gates p l ≡ false
-
-passed : (t : Bool) (k : ℕ) (o : Option ℕ) → cond t (some k) o ≡ none → (t ≡ false) × (o ≡ none)
-passed true k o e = never cc
-passed false k o e = (refl, e)
 
 faultless : (p : Place) (l : Line) → fault p l ≡ none → Faultless p l
 unfolding fault
@@ -166,3 +162,8 @@ end-line v l e t =
       again = ap spell-line (rw (← c) (unfold frame-length kind end-count in end-again (bytes (l .digits)) b s k15)) ∙ line-again l d;
       some-gate = omega arith;
     }
+
+-- nothing stands behind the end
+pub closed-line : (l : Line) → fault Closed l ≡ none → ⊥
+unfolding misplaced
+closed-line l e = let f = faultless Closed l e in let z = f .placed in never cc

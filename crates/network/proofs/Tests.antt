@@ -3,6 +3,7 @@ use Prim.Native.Nat.{ℕ}
 use mathlib.Core.Path.{_≡_, refl, sym, _∙_, ap}
 use mathlib.Core.Logic.{_⊎_, inl, inr, ⊎-elim}
 use mathlib.Core.Bool.{Bool, true, false, cond, not, _&&_, _||_}
+use mathlib.Core.Option.{Option, none, some}
 use native.Mathlib.Omega.{arith}
 
 -- from the equation of two values that differ, anything
@@ -27,3 +28,8 @@ false-either p q = rw (p, q)
 pub picked : {E : Type 0} (test : Bool) (a b : E) {r : E} → cond test a b ≡ r → ((test ≡ true) × (a ≡ r)) ⊎ ((test ≡ false) × (b ≡ r))
 picked true a b e = inl (refl, e)
 picked false a b e = inr (refl, e)
+
+-- a test that would have told a number, and told none
+pub passed : (t : Bool) (k : ℕ) (o : Option ℕ) → cond t (some k) o ≡ none → (t ≡ false) × (o ≡ none)
+passed true k o e = never cc
+passed false k o e = (refl, e)
