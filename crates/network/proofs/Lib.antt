@@ -5,4 +5,5 @@ pub mod Frames
 pub mod Faultless
 pub mod Accepted
 pub mod AcceptedNetwork
+pub mod Rows
 pub mod Examples
