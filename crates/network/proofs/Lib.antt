@@ -6,4 +6,5 @@ pub mod Faultless
 pub mod Accepted
 pub mod AcceptedNetwork
 pub mod Rows
+pub mod Spelled
 pub mod Examples
