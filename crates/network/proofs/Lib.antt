@@ -7,4 +7,5 @@ pub mod Accepted
 pub mod AcceptedNetwork
 pub mod Rows
 pub mod Spelled
+pub mod RowsCheck
 pub mod Examples

@@ -129,7 +129,7 @@ fill-below-count u v [] rows h = refl
 fill-below-count u v (g ∷ gs) rows h =
     fill-below-count u (suc v) gs (put v g rows) (omega arith) ∙ put-other-count u v g rows h
 
-less-room : (j k : ℕ) (rows : Rows) → j ≤ k → Room k rows → Room j rows
+pub less-room : (j k : ℕ) (rows : Rows) → j ≤ k → Room k rows → Room j rows
 less-room j k rows h r = omega arith
 
 -- Whatever is made of a gate and its count, made of the filled rows it is made of the gates.

@@ -72,7 +72,7 @@ module _ (capacity hop : ℕ) where
   unfolding header-bytes
   header-formed = spelled-formed Opening 0x01 (long-bytes capacity ++ word-bytes hop) header-below
 
-  header-length : length (header-bytes capacity hop) ≡ 7
+  pub header-length : length (header-bytes capacity hop) ≡ 7
   unfolding header-bytes
   header-length = refl
 
