@@ -31,7 +31,7 @@ AllFit v (g ∷ gs) = Fit v g × AllFit (suc v) gs
 abbrev pub gate-text : Gate → List ℕ
 gate-text g = spell-line (gate-bytes g (length (g .fanins)))
 
-unless-network : (o : Option ℕ) (at : ℕ) (r : Reading) (m : Network) → unless o at r ≡ network m → (o ≡ none) × (r ≡ network m)
+pub unless-network : (o : Option ℕ) (at : ℕ) (r : Reading) (m : Network) → unless o at r ≡ network m → (o ≡ none) × (r ≡ network m)
 unfolding unless
 unless-network none at r m e = (refl, e)
 unless-network (some k) at r m e = never cc
@@ -153,7 +153,7 @@ walked (l ∷ ls) m e =
     let u = unless-network (fault Opening l) 1 _ m e in
     opened l ls m (header-line l (u .0)) (walk-gates ls 0 2 (with-header nothing-read l) m (u .1))
 
-told-light : (o : Option ℕ) (m n : Network) → told-heavy o m ≡ network n → (o ≡ none) × (m ≡ n)
+pub told-light : (o : Option ℕ) (m n : Network) → told-heavy o m ≡ network n → (o ≡ none) × (m ≡ n)
 unfolding told-heavy
 told-light none m n e = (refl, cc)
 told-light (some at) m n e = never cc

@@ -8,4 +8,5 @@ pub mod AcceptedNetwork
 pub mod Rows
 pub mod Spelled
 pub mod RowsCheck
+pub mod RoundTrip
 pub mod Examples

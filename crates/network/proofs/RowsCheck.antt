@@ -77,7 +77,7 @@ lines-frames f (v ∷ vs) rest =
     rw (append-assoc (spell-line (f v)) (join (map (λ u. spell-line (f u)) vs)) rest, lines-spelled (f v) (join (map (λ u. spell-line (f u)) vs) ++ rest), lines-frames f vs rest)
 
 module _ (capacity hop gates : ℕ) (rows : Rows) where
-  spell-framed : spell capacity hop gates rows
+  pub spell-framed : spell capacity hop gates rows
       ≡ spell-line (header-bytes capacity hop) ++ (join (map (λ v. spell-line (row-frame rows v)) (count-up 0 gates)) ++ spell-line (end-bytes gates))
   spell-framed =
       rw (← (upto-counts-up gates))
@@ -266,7 +266,7 @@ module _ (capacity hop gates : ℕ) (rows : Rows) (c : capacity ≤ most-capacit
       rw (spell-lines capacity hop gates rows, walk-header 1 nothing-read (spelled (header-bytes capacity hop)) gs, header-faultless capacity hop, header-of-rows, rows-network-counts-up capacity hop gates rows)
       (rw z at w)
 
-  read-rows : Room gates rows
+  pub read-rows : Room gates rows
       → reading (spell capacity hop gates rows)
       ≡ cond (ltb most-text (text-length gates rows)) (refused 1 0) (gates-check rows 0 gates (cond (eqb gates 0) (refused 8 2) (told-heavy (heavy-check capacity rows 0 gates) (rows-network capacity hop gates rows))))
   unfolding reading
