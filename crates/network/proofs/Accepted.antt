@@ -1,23 +1,22 @@
 -- What an accepted text is: lines without fault, which are the lines that the network spells.
-use Prim.Native.Nat.{ℕ, zero, suc, _+_, _*_, _≤_, _<_}
+use Prim.Native.Nat.{ℕ, zero, suc, _+_, _≤_, _<_}
 use mathlib.Core.Path.{_≡_, refl, sym, _∙_, ap}
-use mathlib.Core.Logic.{_⊎_, inl, inr, ⊎-elim}
-use mathlib.Core.Bool.{Bool, true, false, cond}
+use mathlib.Core.Logic.{⊎-elim}
+use mathlib.Core.Bool.{true, false}
 use mathlib.Core.List.{List, [], _∷_, _++_, map, append-assoc, append-nil}
 use mathlib.Core.Option.{Option, none, some}
 use native.Mathlib.Omega.{arith}
 use borrow.Author.Tests.{ltb-false}
-use lib.ListN.{length, getD, length-append}
-use lib.Dec.{leb, ltb, eqb}
+use lib.ListN.{length}
+use lib.Dec.{ltb, eqb}
 use Rattle.model.specs.Network.{Gate, Network, size}
 use Rattle.model.specs.Ceilings.{most-capacity, most-hop}
 use Rattle.model.proofs.Lists.{true-or-false}
 use Rattle.frames.specs.Text.{Line, lines}
-use Rattle.frames.specs.declared.Place.{Place}
 use Rattle.frames.specs.declared.Place.the-variants.{Opening, AfterGates, Closed}
-use Rattle.frames.specs.Table.{kind, misplaced, fault, next-place, gate-of}
-use Rattle.network.specs.Reading.{Reading, refused, network, nothing-read, with-header, with-gate, take-in, at-the-end, unless, walk, first-heavy, told-heavy, weigh, reading, most-text}
-use Rattle.network.specs.Spelling.{spell-line, header-bytes, gate-bytes, end-bytes, join, network-lines, spell-network}
+use Rattle.frames.specs.Table.{kind, fault, gate-of}
+use Rattle.network.specs.Reading.{Reading, refused, network, nothing-read, with-header, with-gate, unless, walk, first-heavy, told-heavy, weigh, reading, most-text}
+use Rattle.network.specs.Spelling.{spell-line, header-bytes, gate-bytes, end-bytes, join, spell-network}
 use Rattle.network.proofs.Tests.{never, picked}
 use Rattle.network.proofs.Lines.{AllEnded, line-text, text-of-lines}
 use Rattle.network.proofs.Faultless.{Fit, HeaderLine, header-line, GateLine, gate-line, EndLine, end-line, closed-line}

@@ -1,10 +1,10 @@
--- What an accepted network is: the ceilings, the order of its fan-ins and its lightest bound hold.
+-- What an accepted network is: within its ceilings, its fan-ins rising and below their gate, and no gate heavier than M.
 use Prim.Native.Nat.{ℕ, zero, suc, _+_, _≤_, _<_, pred}
-use mathlib.Core.Path.{_≡_, refl, sym, _∙_, ap}
-use mathlib.Core.Logic.{_⊎_, inl, inr, ⊎-elim}
-use mathlib.Core.Bool.{Bool, true, false, cond, _&&_}
+use mathlib.Core.Path.{_≡_, refl}
+use mathlib.Core.Logic.{⊎-elim}
+use mathlib.Core.Bool.{true, _&&_}
 use mathlib.Core.List.{List, [], _∷_, List·Memᴰ·not-nil, List·Memᴰ·cases-cons}
-use mathlib.Core.Option.{Option, none, some}
+use mathlib.Core.Option.{none}
 use native.Mathlib.Decide.{decLt}
 use native.Mathlib.Omega.{arith}
 use borrow.Author.Tests.{leb-true, ltb-true, ltb-false}
@@ -12,13 +12,13 @@ use lib.ListN.{length, getD, List·getD-eq-default}
 use lib.Dec.{leb, ltb}
 use Rattle.model.specs.Basics.{_∈_}
 use Rattle.model.specs.Ceilings.{most-gates, most-fanins, most-weight, most-delay, most-hop, most-capacity}
-use Rattle.model.specs.Network.{Gate, Network, size, gate, weight, delay, fanins, position, WellFormed, WithinCeilings, Heavy}
+use Rattle.model.specs.Network.{Gate, Network, size, weight, delay, fanins, position, WellFormed, WithinCeilings, Heavy}
 use Rattle.model.proofs.Networks.{reader-known}
 use Rattle.frames.specs.Table.{rising-from}
-use Rattle.network.specs.Reading.{Reading, network, first-heavy, reading}
-use Rattle.network.proofs.Tests.{never, both-true, passed}
+use Rattle.network.specs.Reading.{network, first-heavy, reading}
+use Rattle.network.proofs.Tests.{both-true, passed}
 use Rattle.network.proofs.Faultless.{Fit}
-use Rattle.network.proofs.Accepted.{AllFit, AcceptedText, accepted-text}
+use Rattle.network.proofs.Accepted.{AllFit, accepted-text}
 
 -- fan-ins that rise
 

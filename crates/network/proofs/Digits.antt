@@ -1,19 +1,18 @@
 -- Laws of digits, bytes and numbers: what is spelled reads back, and what is read spells again.
 use Prim.Native.Nat.{ℕ, zero, suc, _+_, _*_, _/_, _%_, _-_, _≤_, _<_}
-use mathlib.Core.Path.{_≡_, refl, sym, _∙_, ap}
+use mathlib.Core.Path.{_≡_, refl, _∙_, ap}
 use mathlib.Core.Logic.{_⊎_, inl, inr, ⊎-elim}
-use mathlib.Core.Bool.{Bool, true, false, cond, not, _&&_, _||_}
-use mathlib.Core.List.{List, [], _∷_, _++_, append-assoc}
-use native.Mathlib.Decide.{decLe, decLt}
+use mathlib.Core.Bool.{true, cond, _&&_}
+use mathlib.Core.List.{List, [], _∷_, _++_}
+use native.Mathlib.Decide.{decLt}
 use native.Mathlib.Omega.{arith}
-use borrow.Author.Tests.{ltb-true, ltb-false, leb-true, leb-false, lt-ltb, le-ltb, le-leb, lt-leb}
-use lib.ListN.{length, getD, drop}
-use lib.Dec.{leb, ltb, eqb}
+use borrow.Author.Tests.{ltb-true, leb-true, lt-ltb, le-ltb, le-leb, lt-leb}
+use lib.ListN.{length, getD}
+use lib.Dec.{leb, ltb}
 use Rattle.model.specs.Basics.{gather}
-use Rattle.model.proofs.Lists.{true-or-false, not-both}
 use Rattle.frames.specs.Text.{line-feed, digit, all-digits, even, bytes, word-at, long-at, words}
 use Rattle.network.specs.Spelling.{figure, byte-digits, word-bytes, long-bytes}
-use Rattle.network.proofs.Tests.{never, both-true, true-both, picked}
+use Rattle.network.proofs.Tests.{never, both-true, picked}
 
 -- every number of the list is below a bound
 abbrev pub Below : ℕ → List ℕ → Type 0
@@ -129,12 +128,6 @@ bytes-below (d ∷ []) a i = omega arith
 bytes-below (c ∷ d ∷ ds) a zero = let t = both-digits c d ds a in omega arith
 bytes-below (c ∷ d ∷ ds) a (suc i) = let t = both-digits c d ds a in bytes-below ds (t .2) i
 
-pub length-bytes : (ds : List ℕ) → even ds ≡ true → length ds ≡ 2 * length (bytes ds)
-unfolding even bytes
-length-bytes [] e = refl
-length-bytes (d ∷ []) e = never cc
-length-bytes (c ∷ d ∷ ds) e = let h = length-bytes ds e in omega arith
-
 -- numbers as bytes, and back
 
 pub high-of : (a b : ℕ) → a < 256 → b < 256 → (256 * a + b) / 256 % 256 ≡ a
@@ -179,13 +172,6 @@ length-words [] k e = omega arith
 length-words (b ∷ []) k e = absurd (omega arith)
 length-words (a ∷ b ∷ bs) zero e = absurd (omega arith)
 length-words (a ∷ b ∷ bs) (suc k) e = ap suc (length-words bs k (omega arith))
-
-pub words-below : (bs : List ℕ) → Below 256 bs → Below 65_536 (words bs)
-unfolding words
-words-below [] h i = omega arith
-words-below (b ∷ []) h i = omega arith
-words-below (a ∷ b ∷ bs) h zero = omega (arith, h 0, h 1)
-words-below (a ∷ b ∷ bs) h (suc i) = words-below bs (λ j. h (suc (suc j))) i
 
 -- a number that stands among bytes
 

@@ -1,26 +1,21 @@
 -- A line without fault where it stands: it is well formed, and it is the line that its own values spell.
-use Prim.Native.Nat.{ℕ, zero, suc, _+_, _*_, _≤_, _<_}
-use mathlib.Core.Path.{_≡_, refl, sym, _∙_, ap}
-use mathlib.Core.Logic.{_⊎_, inl, inr, ⊎-elim}
-use mathlib.Core.Bool.{Bool, true, false, cond, not, _&&_, _||_}
-use mathlib.Core.List.{List, [], _∷_, _++_}
-use mathlib.Core.Option.{Option, none, some}
+use Prim.Native.Nat.{ℕ, _+_, _*_, _≤_, _<_}
+use mathlib.Core.Path.{_≡_, refl, _∙_, ap}
+use mathlib.Core.Bool.{true, false, not, _||_}
+use mathlib.Core.Option.{none}
 use native.Mathlib.Omega.{arith}
-use borrow.Author.Tests.{eqb-true, eqb-false, ltb-false, leb-false, not-false, eq-eqb, ne-eqb}
-use lib.ListN.{length, getD, drop, length-drop}
-use lib.Seq.{getD-drop}
-use lib.Dec.{leb, ltb, eqb}
-use Rattle.model.specs.Basics.{gather}
+use borrow.Author.Tests.{eqb-true, eqb-false, ltb-false, leb-false, not-false, eq-eqb}
+use lib.ListN.{length, drop, length-drop}
+use lib.Dec.{ltb, eqb}
 use Rattle.model.specs.Ceilings.{most-gates, most-fanins, most-weight, most-delay}
 use Rattle.model.specs.Network.{Gate}
-use Rattle.model.proofs.Lists.{true-or-false}
-use Rattle.frames.specs.Text.{Line, all-digits, even, bytes, word-at, long-at, words}
+use Rattle.frames.specs.Text.{Line, all-digits, even, bytes}
 use Rattle.frames.specs.declared.Place.{Place}
 use Rattle.frames.specs.declared.Place.the-variants.{Opening, AfterGates, Closed}
-use Rattle.frames.specs.Table.{kind, frame-length, header-capacity, header-hop, gate-count, gate-fanins, gate-of, end-count, none-there, malformed, misplaced, wrong-length, one-too-many, rising-from, unordered, miscounted, no-gates, Row, table, lowest, fault}
-use Rattle.network.specs.Spelling.{byte-digits, spell-line, header-bytes, gate-bytes, end-bytes}
+use Rattle.frames.specs.Table.{kind, frame-length, header-capacity, header-hop, gate-count, gate-fanins, gate-of, end-count, none-there, malformed, misplaced, wrong-length, one-too-many, rising-from, unordered, miscounted, no-gates, fault}
+use Rattle.network.specs.Spelling.{spell-line, header-bytes, gate-bytes, end-bytes}
 use Rattle.network.proofs.Tests.{never, neither-true, passed}
-use Rattle.network.proofs.Digits.{Below, digits-bytes, bytes-below, length-words, words-below, word-below, long-below}
+use Rattle.network.proofs.Digits.{digits-bytes, bytes-below, length-words, word-below, long-below}
 use Rattle.network.proofs.Lines.{line-text}
 use Rattle.network.proofs.Frames.{header-again, gate-again, end-again}
 
@@ -105,7 +100,6 @@ pub record Fit (v : ℕ) (g : Gate) : Type 0 where
   pub rising : rising-from 0 v (g .fanins) ≡ true
   pub weight : g .weight ≤ most-weight
   pub delay : g .delay ≤ most-delay
-  pub numbers : Below 65_536 (g .fanins)
 
 pub record GateLine (v : ℕ) (l : Line) : Type 0 where
   pub ended : l .ended ≡ true
@@ -123,7 +117,6 @@ gate-line v l e t =
     let u = neither-true (ltb most-fanins (gate-count l)) (not (eqb (frame-length l) (6 + 2 * gate-count l))) s in
     let m : gate-count l ≤ most-fanins = ltb-false most-fanins (gate-count l) (u .0) in
     let n : frame-length l ≡ 6 + 2 * gate-count l = eqb-true _ _ (not-false _ (u .1)) in
-    let b6 : Below 256 (drop 6 (bytes (l .digits))) = λ i. rw getD-drop (b (6 + i)) in
     let r : length (gate-fanins l) ≡ gate-count l = unfold frame-length gate-fanins in length-words (drop 6 (bytes (l .digits))) (gate-count l) (simp length-drop (omega arith)) in
     record {
       ended = d .ended;
@@ -135,7 +128,6 @@ gate-line v l e t =
             rising = not-false _ (rw (k, unordered) at (f .in-order));
             weight = omega (arith, word-below (bytes (l .digits)) 1 b);
             delay = omega (arith, word-below (bytes (l .digits)) 3 b);
-            numbers = unfold gate-fanins in words-below (drop 6 (bytes (l .digits))) b6;
           };
     }
 

@@ -1,15 +1,14 @@
 -- Laws of the three frames of a network: bytes of a frame's length and type are what the frame's values spell.
-use Prim.Native.Nat.{ℕ, zero, suc, _+_, _*_, _/_, _%_, _≤_, _<_}
-use mathlib.Core.Path.{_≡_, refl, sym, _∙_, ap}
+use Prim.Native.Nat.{ℕ, suc, _+_, _*_, _<_}
+use mathlib.Core.Path.{_≡_, _∙_, ap}
 use mathlib.Core.List.{List, [], _∷_, _++_}
 use native.Mathlib.Omega.{arith}
 use lib.ListN.{length, getD, drop, drop-of-length-le, length-drop}
 use lib.Seq.{drop-cons, getD-drop}
 use Rattle.model.specs.Basics.{gather}
-use Rattle.model.specs.Network.{Gate}
 use Rattle.frames.specs.Text.{word-at, long-at, words}
-use Rattle.network.specs.Spelling.{word-bytes, long-bytes, header-bytes, gate-bytes, end-bytes}
-use Rattle.network.proofs.Digits.{Below, high-of, low-of, word-bytes-of, long-bytes-of, bytes-words, word-bytes-below, words-bytes-below}
+use Rattle.network.specs.Spelling.{word-bytes, header-bytes, gate-bytes, end-bytes}
+use Rattle.network.proofs.Digits.{Below, word-bytes-of, long-bytes-of, bytes-words}
 
 -- the byte at a place, and those behind it
 at : (bs : List ℕ) (i : ℕ) → i < length bs → drop i bs ≡ getD bs i 0 ∷ drop (suc i) bs

@@ -1,27 +1,25 @@
 -- The round trips: a text that is read and written again is the same bytes, and rows that spell an accepted text are
 -- read back as the same rows.
-use Prim.Native.Nat.{ℕ, zero, suc, _+_, _*_, _≤_, _<_}
-use mathlib.Core.Path.{_≡_, refl, sym, _∙_, ap}
-use mathlib.Core.Logic.{_⊎_, inl, inr, ⊎-elim}
-use mathlib.Core.Bool.{Bool, true, false, cond}
-use mathlib.Core.List.{List, [], _∷_, _++_, map}
-use mathlib.Core.Option.{Option, none, some}
-use native.Mathlib.Decide.{decLt}
+use Prim.Native.Nat.{ℕ, zero, suc, _+_, _≤_, _<_}
+use mathlib.Core.Path.{_≡_, sym, _∙_, ap}
+use mathlib.Core.Logic.{⊎-elim}
+use mathlib.Core.Bool.{false}
+use mathlib.Core.List.{List, [], _∷_, _++_}
 use native.Mathlib.Omega.{arith}
 use borrow.Author.Tests.{ltb-false}
 use lib.ListN.{length, getD}
-use lib.Dec.{leb, ltb, eqb}
+use lib.Dec.{ltb, eqb}
 use Rattle.model.specs.Ceilings.{most-fanins, most-capacity, most-hop}
 use Rattle.model.specs.Network.{Gate, Network, size}
 use Rattle.model.proofs.Lists.{same-or-not}
-use Rattle.network.specs.Reading.{Reading, refused, network, unless, told-heavy, reading, most-text}
+use Rattle.network.specs.Reading.{Reading, refused, network, told-heavy, reading, most-text}
 use Rattle.network.specs.Rows.{Rows, too-short, in-room, answer, fill, filled, row-gate, rows-network}
-use Rattle.network.specs.Spelling.{spell-line, header-bytes, gate-bytes, end-bytes, join, spell, network-lines, spell-network, rows-answer}
+use Rattle.network.specs.Spelling.{spell-line, header-bytes, gate-bytes, end-bytes, join, spell, spell-network, rows-answer}
 use Rattle.network.proofs.Tests.{never, passed, picked}
-use Rattle.network.proofs.Accepted.{AllFit, network-text, AcceptedText, accepted-text, unless-network, told-light}
-use Rattle.network.proofs.Rows.{count-up, upto-counts-up, Room, room, AllFew, filled-gates, filled-network, fill-rows-network}
+use Rattle.network.proofs.Accepted.{AllFit, network-text, accepted-text, unless-network, told-light}
+use Rattle.network.proofs.Rows.{Room, room, AllFew, filled-gates, filled-network, fill-rows-network}
 use Rattle.network.proofs.Spelled.{gate-fault}
-use Rattle.network.proofs.RowsCheck.{InRange, text-length, gates-check, heavy-check, spell-framed, read-rows}
+use Rattle.network.proofs.RowsCheck.{InRange, text-length, gates-check, heavy-check, end-check, text-check, spell-framed, read-rows}
 
 -- a text, read and written again
 
@@ -88,28 +86,31 @@ pub record ReadBack (capacity hop gates : ℕ) (rows : Rows) (n : Network) : Typ
   pub same-network : n ≡ rows-network capacity hop gates rows
   pub same-rows : fill 0 (n .gates) rows ≡ rows
 
-module _ (capacity hop gates : ℕ) (rows : Rows) (c : capacity ≤ most-capacity) (d : hop ≤ most-hop) (fit : InRange rows) where
-  read-back : (n : Network) → Room gates rows
-      → gates-check rows 0 gates (cond (eqb gates 0) (refused 8 2) (told-heavy (heavy-check capacity rows 0 gates) (rows-network capacity hop gates rows))) ≡ network n
-      → ReadBack capacity hop gates rows n
-  read-back n r e =
-      let m = rows-network capacity hop gates rows in
-      let t = checked rows 0 gates (cond (eqb gates 0) (refused 8 2) (told-heavy (heavy-check capacity rows 0 gates) m)) n e in
-      let light : told-heavy (heavy-check capacity rows 0 gates) m ≡ network n =
-      ⊎-elim (λ s. let z = s .1 in never cc) (λ s. s .1) (picked (eqb gates 0) (refused 8 2) (told-heavy (heavy-check capacity rows 0 gates) m) (t .1)) in
-      let same = told-light (heavy-check capacity rows 0 gates) m n light .1 in
-      record {
-        same-network = sym same;
-        same-rows =
-            rw (← same) (fill-rows-network capacity hop gates rows r (λ v h. t .0 v (omega arith) (omega arith)));
-      }
+read-back : (capacity hop gates : ℕ) (rows : Rows) (n : Network) → Room gates rows → text-check capacity hop gates rows ≡ network n
+    → ReadBack capacity hop gates rows n
+unfolding text-check
+read-back capacity hop gates rows n r e =
+    let m = rows-network capacity hop gates rows in
+    let light = heavy-check capacity rows 0 gates in
+    ⊎-elim (λ s. let z = s .1 in never cc)
+    (λ s.
+    let t = checked rows 0 gates (end-check capacity hop gates rows) n (s .1) in
+    ⊎-elim (λ u. let z = u .1 in never cc)
+    (λ u.
+    let same = told-light light m n (u .1) .1 in
+    record {
+      same-network = sym same;
+      same-rows = rw (← same) (fill-rows-network capacity hop gates rows r (λ v h. t .0 v (omega arith) (omega arith)));
+    })
+    (picked (eqb gates 0) (refused 8 2) (told-heavy light m) (t .1)))
+    (picked (ltb most-text (text-length gates rows)) (refused 1 0) (gates-check rows 0 gates (end-check capacity hop gates rows)) e)
 
+module _ (capacity hop gates : ℕ) (rows : Rows) (c : capacity ≤ most-capacity) (d : hop ≤ most-hop) (fit : InRange rows) where
   pub rows-read-back : (n : Network) → too-short gates rows ≡ false → reading (spell capacity hop gates rows) ≡ network n
       → ReadBack capacity hop gates rows n
   rows-read-back n s e =
       let r = room gates rows s in
-      ⊎-elim (λ t. let z = t .1 in never cc) (λ t. read-back n r (t .1))
-      (picked (ltb most-text (text-length gates rows)) (refused 1 0) _ (sym (read-rows capacity hop gates rows c d fit r) ∙ e))
+      read-back capacity hop gates rows n r (sym (read-rows capacity hop gates rows c d fit r) ∙ e)
 
   -- The same, of what rows answer.
   pub rows-answer-read-back : (n : Network) → rows-answer capacity hop gates rows ≡ network n → ReadBack capacity hop gates rows n

@@ -1,19 +1,18 @@
 -- Laws of rows: a network filled into rows stands in them, and what stands in rows fills them with what they hold.
 use Prim.Native.Nat.{ℕ, zero, suc, _+_, _*_, _-_, _≤_, _<_, min}
 use mathlib.Core.Path.{_≡_, refl, sym, _∙_, ap}
-use mathlib.Core.Logic.{_⊎_, inl, inr, ⊎-elim}
-use mathlib.Core.Bool.{Bool, true, false, cond, _||_}
-use mathlib.Core.List.{List, [], _∷_, _++_, map, append-assoc, append-nil}
+use mathlib.Core.Bool.{false, _||_}
+use mathlib.Core.List.{List, [], _∷_, _++_, map, append-assoc}
 use native.Mathlib.Omega.{arith}
 use borrow.Author.Tests.{ltb-false}
 use lib.ListN.{length, getD, set, take, drop, length-take, length-drop, length-set, take-append-drop}
-use lib.Seq.{sets, sets-eq, length-sets, take-set-le, drop-set-add, getD-set-same, getD-set-other, set-getD, take-add, take-at, drop-at, drop-drop, length-take-le, take-append-le}
+use lib.Seq.{sets, sets-eq, length-sets, take-set-le, drop-set-add, getD-set-same, getD-set-other, set-getD, take-add, take-at, drop-at, length-take-le}
 use lib.Dec.{ltb}
 use Rattle.model.specs.Basics.{upto}
 use Rattle.model.specs.Ceilings.{most-fanins}
 use Rattle.model.specs.Network.{Gate, Network, size}
 use Rattle.network.specs.Rows.{Rows, too-short, put, fill, row-gate, rows-network}
-use Rattle.network.proofs.Tests.{never, neither-true}
+use Rattle.network.proofs.Tests.{neither-true}
 
 -- v, v + 1, .. and so on, k of them
 unfoldable pub count-up : ℕ → ℕ → List ℕ
@@ -112,11 +111,6 @@ put-other-count u v g rows h = getD-set-other (rows .counts) v u (length (g .fan
 abbrev pub AllFew : List Gate → Type 0
 AllFew [] = Unit {0}
 AllFew (g ∷ gs) = (length (g .fanins) ≤ most-fanins) × AllFew gs
-
-pub fill-room : (gates v : ℕ) (gs : List Gate) (rows : Rows) → Room gates rows → Room gates (fill v gs rows)
-unfolding fill
-fill-room gates v [] rows r = r
-fill-room gates v (g ∷ gs) rows r = fill-room gates (suc v) gs (put v g rows) (put-room gates v g rows r)
 
 fill-below : (u v : ℕ) (gs : List Gate) (rows : Rows) → u < v → row-gate (fill v gs rows) u ≡ row-gate rows u
 unfolding fill

@@ -1,28 +1,26 @@
 -- What rows answer, found without spelling them.
 use Prim.Native.Nat.{ℕ, zero, suc, _+_, _*_, _≤_, _<_, min}
-use mathlib.Core.Path.{_≡_, refl, sym, _∙_, ap}
-use mathlib.Core.Logic.{_⊎_, inl, inr, ⊎-elim}
-use mathlib.Core.Bool.{Bool, true, false, cond, not}
+use mathlib.Core.Path.{_≡_, refl, _∙_, ap}
+use mathlib.Core.Logic.{⊎-elim}
+use mathlib.Core.Bool.{true, false, cond}
 use mathlib.Core.List.{List, [], _∷_, _++_, map, append-assoc, append-nil}
 use mathlib.Core.Option.{Option, none, some}
-use native.Mathlib.Decide.{decLt}
 use native.Mathlib.Omega.{arith}
-use borrow.Author.Tests.{ltb-true, ltb-false, leb-false, eq-eqb, ne-eqb, eqb-true}
+use borrow.Author.Tests.{leb-false, eq-eqb, ne-eqb}
 use lib.ListN.{length, getD, take, drop, length-append}
 use lib.Seq.{getD-drop}
 use lib.Dec.{leb, ltb, eqb}
 use Rattle.model.specs.Basics.{upto, total, gather}
 use Rattle.model.specs.Ceilings.{most-gates, most-fanins, most-capacity, most-hop}
-use Rattle.model.specs.Network.{Gate, Network, size}
+use Rattle.model.specs.Network.{Gate, Network}
 use Rattle.model.proofs.Lists.{true-or-false}
 use Rattle.frames.specs.Text.{Line, lines}
-use Rattle.frames.specs.declared.Place.{Place}
-use Rattle.frames.specs.declared.Place.the-variants.{Opening, AfterGates, Closed}
-use Rattle.frames.specs.Table.{kind, fault, next-place, rising-from, gate-of}
-use Rattle.network.specs.Reading.{Reading, refused, network, nothing-read, with-header, with-gate, take-in, at-the-end, unless, walk, first-heavy, told-heavy, weigh, reading, most-text}
+use Rattle.frames.specs.declared.Place.the-variants.{Opening, AfterGates}
+use Rattle.frames.specs.Table.{kind, fault, gate-of}
+use Rattle.network.specs.Reading.{Reading, refused, network, nothing-read, with-header, with-gate, unless, walk, first-heavy, told-heavy, weigh, reading, most-text}
 use Rattle.network.specs.Rows.{Rows, too-short, row-gate, rows-network}
-use Rattle.network.specs.Spelling.{byte-digits, spell-line, header-bytes, gate-bytes, end-bytes, join, row-lines, spell, rows-answer}
-use Rattle.network.proofs.Tests.{never, passed, picked}
+use Rattle.network.specs.Spelling.{byte-digits, spell-line, header-bytes, gate-bytes, end-bytes, join, spell, rows-answer}
+use Rattle.network.proofs.Tests.{passed}
 use Rattle.network.proofs.Digits.{Below, length-digits}
 use Rattle.network.proofs.Lines.{lines-spelled}
 use Rattle.network.proofs.Accepted.{join-framed}
@@ -56,13 +54,21 @@ heavy-check capacity rows v zero = none
 heavy-check capacity rows v (suc k) =
     cond (ltb capacity (getD (rows .weights) v 0)) (some (v + 2)) (heavy-check capacity rows (suc v) k)
 
+-- 8, and then 9
+unfoldable pub end-check : ℕ → ℕ → ℕ → Rows → Reading
+unfolding told-heavy heavy-check rows-network
+end-check capacity hop gates rows =
+    cond (eqb gates 0) (refused 8 2) (told-heavy (heavy-check capacity rows 0 gates) (rows-network capacity hop gates rows))
+
+-- of rows that are long enough
+unfoldable pub text-check : ℕ → ℕ → ℕ → Rows → Reading
+unfolding text-length gates-check end-check
+text-check capacity hop gates rows =
+    cond (ltb most-text (text-length gates rows)) (refused 1 0) (gates-check rows 0 gates (end-check capacity hop gates rows))
+
 unfoldable pub rows-check : ℕ → ℕ → ℕ → Rows → Reading
-unfolding too-short text-length gates-check told-heavy heavy-check rows-network
-rows-check capacity hop gates rows =
-    cond (too-short gates rows) (refused 10 0)
-    (cond (ltb most-text (text-length gates rows)) (refused 1 0)
-    (gates-check rows 0 gates
-    (cond (eqb gates 0) (refused 8 2) (told-heavy (heavy-check capacity rows 0 gates) (rows-network capacity hop gates rows)))))
+unfolding too-short text-check
+rows-check capacity hop gates rows = cond (too-short gates rows) (refused 10 0) (text-check capacity hop gates rows)
 
 -- the lines that rows spell
 
@@ -266,10 +272,8 @@ module _ (capacity hop gates : ℕ) (rows : Rows) (c : capacity ≤ most-capacit
       rw (spell-lines capacity hop gates rows, walk-header 1 nothing-read (spelled (header-bytes capacity hop)) gs, header-faultless capacity hop, header-of-rows, rows-network-counts-up capacity hop gates rows)
       (rw z at w)
 
-  pub read-rows : Room gates rows
-      → reading (spell capacity hop gates rows)
-      ≡ cond (ltb most-text (text-length gates rows)) (refused 1 0) (gates-check rows 0 gates (cond (eqb gates 0) (refused 8 2) (told-heavy (heavy-check capacity rows 0 gates) (rows-network capacity hop gates rows))))
-  unfolding reading
+  pub read-rows : Room gates rows → reading (spell capacity hop gates rows) ≡ text-check capacity hop gates rows
+  unfolding reading text-check
   read-rows r =
       rw (spell-length rows fit capacity hop gates r, walk-spelled r, weigh-gates rows 0 gates (ended gates (rows-network capacity hop gates rows)), weigh-ended gates (rows-network capacity hop gates rows), heavy-network capacity hop gates rows)
 

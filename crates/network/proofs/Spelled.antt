@@ -1,25 +1,23 @@
 -- What the lines that values spell are read as, and which faults they can have.
-use Prim.Native.Nat.{ℕ, zero, suc, _+_, _*_, _/_, _%_, _≤_, _<_, min}
-use mathlib.Core.Path.{_≡_, refl, sym, _∙_, ap}
-use mathlib.Core.Logic.{_⊎_, inl, inr, ⊎-elim}
-use mathlib.Core.Bool.{Bool, true, false, cond, not, _&&_, _||_}
-use mathlib.Core.List.{List, [], _∷_, _++_, map}
+use Prim.Native.Nat.{ℕ, zero, suc, _+_, _*_, _/_, _%_, _<_, min}
+use mathlib.Core.Path.{_≡_, refl, _∙_}
+use mathlib.Core.Bool.{Bool, false, cond, not, _||_}
+use mathlib.Core.List.{List, [], _∷_, _++_}
 use mathlib.Core.Option.{Option, none, some}
 use native.Mathlib.Decide.{decLt}
 use native.Mathlib.Omega.{arith}
-use borrow.Author.Tests.{lt-ltb, le-ltb, eq-eqb, ne-eqb}
-use lib.ListN.{length, getD, drop}
+use borrow.Author.Tests.{lt-ltb, le-ltb, eq-eqb}
+use lib.ListN.{length, getD}
 use lib.Dec.{leb, ltb, eqb}
 use Rattle.model.specs.Basics.{gather}
 use Rattle.model.specs.Ceilings.{most-gates, most-fanins}
 use Rattle.model.specs.Network.{Gate}
-use Rattle.frames.specs.Text.{Line, all-digits, even, bytes, word-at, long-at, words}
+use Rattle.frames.specs.Text.{Line}
 use Rattle.frames.specs.declared.Place.{Place}
-use Rattle.frames.specs.declared.Place.the-variants.{Opening, AfterGates, Closed}
-use Rattle.frames.specs.Table.{kind, frame-length, header-capacity, header-hop, gate-count, gate-fanins, gate-of, end-count, none-there, malformed, misplaced, wrong-length, one-too-many, rising-from, unordered, miscounted, no-gates, fault}
-use Rattle.network.specs.Spelling.{word-bytes, long-bytes, byte-digits, spell-line, header-bytes, gate-bytes, end-bytes}
-use Rattle.network.proofs.Tests.{never}
-use Rattle.network.proofs.Digits.{Below, bytes-digits, digits-are-digits, digits-are-even, word-of, words-bytes, length-word-bytes, word-bytes-below, words-bytes-below, word-at-head, long-at-head}
+use Rattle.frames.specs.declared.Place.the-variants.{Opening, AfterGates}
+use Rattle.frames.specs.Table.{kind, frame-length, header-capacity, header-hop, gate-count, gate-fanins, gate-of, end-count, malformed, misplaced, wrong-length, one-too-many, rising-from, unordered, miscounted, no-gates, fault}
+use Rattle.network.specs.Spelling.{word-bytes, long-bytes, byte-digits, header-bytes, gate-bytes, end-bytes}
+use Rattle.network.proofs.Digits.{Below, bytes-digits, digits-are-digits, digits-are-even, word-of, words-bytes, length-word-bytes, word-bytes-below, words-bytes-below, long-at-head}
 use Rattle.network.proofs.Lines.{line-of}
 
 -- the line that bytes spell

@@ -1,8 +1,8 @@
 -- Truth and falsehood of tests that are put together.
 use Prim.Native.Nat.{ℕ}
-use mathlib.Core.Path.{_≡_, refl, sym, _∙_, ap}
-use mathlib.Core.Logic.{_⊎_, inl, inr, ⊎-elim}
-use mathlib.Core.Bool.{Bool, true, false, cond, not, _&&_, _||_}
+use mathlib.Core.Path.{_≡_, refl}
+use mathlib.Core.Logic.{_⊎_, inl, inr}
+use mathlib.Core.Bool.{Bool, true, false, cond, _&&_, _||_}
 use mathlib.Core.Option.{Option, none, some}
 use native.Mathlib.Omega.{arith}
 
@@ -14,15 +14,9 @@ pub both-true : (a b : Bool) → (a && b) ≡ true → (a ≡ true) × (b ≡ tr
 both-true true b h = (refl, h)
 both-true false b h = never cc
 
-pub true-both : {a b : Bool} → a ≡ true → b ≡ true → (a && b) ≡ true
-true-both p q = rw (p, q)
-
 pub neither-true : (a b : Bool) → (a || b) ≡ false → (a ≡ false) × (b ≡ false)
 neither-true true b h = never cc
 neither-true false b h = (refl, h)
-
-pub false-either : {a b : Bool} → a ≡ false → b ≡ false → (a || b) ≡ false
-false-either p q = rw (p, q)
 
 -- an answer that a test picks tells how the test went
 pub picked : {E : Type 0} (test : Bool) (a b : E) {r : E} → cond test a b ≡ r → ((test ≡ true) × (a ≡ r)) ⊎ ((test ≡ false) × (b ≡ r))
