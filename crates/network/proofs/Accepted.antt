@@ -163,6 +163,9 @@ weigh-network (refused k at) n e = never cc
 weigh-network (network m) n e =
     let t = told-light (first-heavy (m .capacity) 2 (m .gates)) m n e in (ap network (t .1), rw (t .1) at (t .0))
 
+-- A line without fault is ended, and is the line that its own values spell: the header's, a gate's, the end's. So walking
+-- over the lines collects gates whose lines are those that were read, and the count at the end is theirs; nothing can
+-- stand behind it. A text whose lines are all ended is its lines put together, so the network spells the text.
 pub accepted-text : (text : List ℕ) (n : Network) → reading text ≡ network n → AcceptedText text n
 unfolding reading
 accepted-text text n e =

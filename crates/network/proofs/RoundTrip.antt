@@ -23,7 +23,7 @@ use Rattle.network.proofs.RowsCheck.{InRange, text-length, gates-check,
 
 -- a text, read and written again
 
--- "A text that is read and written again is the same bytes": an accepted text is what its network spells.
+-- A text that is read and written again is the same bytes: an accepted text is what its network spells.
 pub read-written : (text : List ℕ) (n : Network) → reading text ≡ network n → spell-network n ≡ text
 read-written text n e = accepted-text text n e .again
 
@@ -53,13 +53,14 @@ pub read-filled-written : (text : List ℕ) (n : Network) (rows : Rows) → read
 read-filled-written text n rows e s =
     filled-spells n rows (room (size n) rows s) (few 0 (n .gates) (accepted-text text n e .fit)) ∙ read-written text n e
 
--- The same, of the answer with rows lent: what is answered and left in them spells the text.
+-- an answer that is a network: the text was accepted, and there was room
 answered : (rows : Rows) (r : Reading) (n : Network) → in-room rows r ≡ network n → (r ≡ network n) × (too-short (size n) rows ≡ false)
 unfolding in-room
 answered rows (refused k at) n e = never cc
 answered rows (network m) n e =
     ⊎-elim (λ t. let z = t .1 in never cc) (λ t. let z = t .1 in let f = t .0 in let d : m ≡ n = cc in (z, rw d at f)) (picked (too-short (size m) rows) (refused 10 0) (network m) e)
 
+-- The same, of the answer with rows lent: what it leaves in them spells the text.
 pub answer-filled-written : (text : List ℕ) (n : Network) (rows : Rows) → answer text rows ≡ network n
     → spell (n .capacity) (n .hop) (size n) (filled (answer text rows) rows) ≡ text
 unfolding answer filled
@@ -80,7 +81,7 @@ checked rows v (suc k) r n e =
     let here : count ≤ most-fanins = unfold gate-fault in ltb-false most-fanins count (passed (ltb most-fanins count) 4 _ (s .0) .0) in
     ((λ u l h. ⊎-elim (λ (d : u ≡ v). rw d here) (λ (d : u ≡ v → ⊥). t .0 u (omega arith) (omega arith)) (same-or-not u v)), t .1)
 
--- "Rows that spell an accepted text are read back as the same rows": the network read is the one that stands in them, and
+-- Rows that spell an accepted text are read back as the same rows: the network read is the one that stands in them, and
 -- filling it in leaves them as they are.
 pub record ReadBack (capacity hop gates : ℕ) (rows : Rows) (n : Network) : Type 0 where
   pub same-network : n ≡ rows-network capacity hop gates rows

@@ -197,6 +197,9 @@ module _ (rows : Rows) (fit : InRange rows) where
   row-line-gate v =
       gate-of-spelled (row-gate rows v) (getD (rows .counts) v 0) (fit .counts v) (unfold row-gate in fit .weights v) (unfold row-gate in fit .delays v) (row-fanins-below v)
 
+  -- The line of a gate can only have the faults 4, 5 and 6, and is read as the gate that stands in the rows; so reading
+  -- the lines from gate v on does what the check of the gates does from v on. Past 512 gates the check has stopped, so
+  -- the number that the end tells fits its two bytes.
   walk-rows : (v k at : ℕ) (n : Network) → v ≤ most-gates → Room (v + k) rows → at ≡ v + 2
       → walk (AfterGates v) at n (map (λ u. spelled (row-frame rows u)) (count-up v k) ++ (spelled (end-bytes (v + k)) ∷ []))
       ≡ gates-check rows v k (ended (v + k) (more-gates n (map (row-gate rows) (count-up v k))))
