@@ -1,1 +1,12 @@
+pub mod Tests
+pub mod Digits
+pub mod Lines
+pub mod Frames
+pub mod Faultless
+pub mod Accepted
+pub mod AcceptedNetwork
+pub mod Rows
+pub mod Spelled
+pub mod RowsCheck
+pub mod RoundTrip
 pub mod Examples
