@@ -1,0 +1,2 @@
+-- Document 01, "Frames": what a text answers, line by line.
+pub mod Result
