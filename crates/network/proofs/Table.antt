@@ -20,6 +20,7 @@ use Rattle.frames.specs.Text.{Line, lines}
 use Rattle.frames.specs.Table.{fault, next-place}
 use Rattle.frames.specs.Fault.{Given, Faultless}
 use Rattle.frames.proofs.Fault.{fault-given, fault-none}
+use Rattle.network.proofs.Exactly.{Exactly, Some, said, read, exactly}
 use Rattle.network.proofs.Heavy.{heavy-told, heavy-none}
 use Rattle.network.specs.Reading.{Reading, refused, network, most-text, nothing-read, take-in, at-the-end, unless, walk, first-heavy, told-heavy, weigh, reading}
 use Rattle.network.specs.Rows.{Rows, too-short, in-room, answer}
@@ -100,20 +101,20 @@ unfolding told-heavy
 told-none n = refl
 
 -- Where the table says a number, reading answers it.
-pub refused-says : {text : List ℕ} {k at : ℕ} → Says text k at → reading text ≡ refused k at
-refused-says {text} (too-long h) = read-too-long text h
-refused-says {text} (faulty-line {front = front} {l = l} {p = p} {n = n} {k = k} back fits b here given) =
+refused-says : (text : List ℕ) (k at : ℕ) → Says text k at → reading text ≡ refused k at
+refused-says text _ _ (too-long h) = read-too-long text h
+refused-says text _ _ (faulty-line {front = front} {l = l} {p = p} {n = n} {k = k} back fits b here given) =
     read-fitting text fits
     ∙ ap weigh
     (ap (walk Opening 1 nothing-read) here
     ∙ walk-past b (l ∷ back)
     ∙ walk-faulty p (suc (length front)) n l back k (fault-given k p l .1 given))
     ∙ weigh-refused k (suc (length front))
-refused-says {text} (no-end {p = p} {n = n} fits b h) =
+refused-says text _ _ (no-end {p = p} {n = n} fits b h) =
     read-fitting text fits
     ∙ ap weigh (walk-whole b ∙ open-end p (suc (length (lines text))) n h)
     ∙ weigh-refused 3 (suc (length (lines text)))
-refused-says {text} (too-heavy {n = n} {v = v} fits b h) =
+refused-says text _ _ (too-heavy {n = n} {v = v} fits b h) =
     read-fitting text fits
     ∙ ap weigh (walk-whole b ∙ closed-end (suc (length (lines text))) n)
     ∙ weigh-network n
@@ -121,118 +122,49 @@ refused-says {text} (too-heavy {n = n} {v = v} fits b h) =
     ∙ told-some (v + 2) n
 
 -- Where the text is a network's, reading answers that network.
-pub network-reads : {text : List ℕ} {n : Network} → Reads text n → reading text ≡ network n
-network-reads {text} {n} r =
+network-reads : (text : List ℕ) (n : Network) → Reads text n → reading text ≡ network n
+network-reads text n r =
     read-fitting text (r .fits)
     ∙ ap weigh (walk-whole (r .whole) ∙ closed-end (suc (length (lines text))) n)
     ∙ weigh-network n
     ∙ ap (λ o. told-heavy o n) (heavy-none n .1 (r .light))
     ∙ told-none n
 
--- What the walk comes to: it stopped where the table says, or the lines are whole.
-data Walked (text : List ℕ) (r : Reading) : Type 0 where
-  stopped : {k at : ℕ} → Says text k at → r ≡ refused k at → Walked text r
-  whole : {n : Network} → Before (lines text) Closed n → r ≡ network n → Walked text r
-
+-- The table says something of a text, or the text is a network's: the lines are followed until one is faulty or none is left.
 module _ (text : List ℕ) (fits : length text ≤ most-text) where
-  walked-out :
-      (front : List Line) (p : Place) (n : Network) →
-      Before front p n → lines text ≡ front → Walked text (at-the-end p (suc (length front)) n)
-  walked-out front p n b here = go p (rw here b)
-    where
-      open-still : (q : Place) → Before (lines text) q n → (q ≡ Closed → ⊥) → Walked text (at-the-end q (suc (length front)) n)
-      open-still q b′ h = stopped (no-end fits b′ h) (rw here (open-end q (suc (length front)) n h))
+  weighed : (n : Network) → Before (lines text) Closed n → (o : Option ℕ) → first-heavy (n .capacity) 2 (n .gates) ≡ o → Some (Says text) (Reads text)
+  weighed n b none e = read (record { fits = fits; whole = b; light = heavy-none n .0 e })
+  weighed n b (some at) e = said (too-heavy fits b (heavy-told n at .0 e .1))
 
-      go : (q : Place) → Before (lines text) q n → Walked text (at-the-end q (suc (length front)) n)
-      go Opening b′ = open-still Opening b′ (λ e. let z : _≡_ {A = ℕ} 0 1 = cc in omega arith)
-      go (AfterGates g) b′ = open-still (AfterGates g) b′ (λ e. let z : _≡_ {A = ℕ} 0 1 = cc in omega arith)
-      go Closed b′ = whole b′ (closed-end (suc (length front)) n)
+  ended : (p : Place) (n : Network) → Before (lines text) p n → Some (Says text) (Reads text)
+  ended Opening n b = said (no-end fits b (λ e. let z : _≡_ {A = ℕ} 0 1 = cc in omega arith))
+  ended (AfterGates g) n b = said (no-end fits b (λ e. let z : _≡_ {A = ℕ} 0 1 = cc in omega arith))
+  ended Closed n b = weighed n b (first-heavy (n .capacity) 2 (n .gates)) refl
 
-  walked :
+  followed :
       (rest front : List Line) (p : Place) (n : Network) →
-      Before front p n → lines text ≡ front ++ rest → Walked text (walk p (suc (length front)) n rest)
-  walked [] front p n b here = rw walk-end (walked-out front p n b (here ∙ append-nil front))
-  walked (l ∷ rest) front p n b here = go (fault p l) refl (walked rest (front ++ (l ∷ [])) (next-place p l) (take-in n p l))
+      Before front p n → lines text ≡ front ++ rest → Some (Says text) (Reads text)
+  followed [] front p n b here = ended p n (rw (here, append-nil front) b)
+  followed (l ∷ rest) front p n b here =
+      go (fault p l) refl (followed rest (front ++ (l ∷ [])) (next-place p l) (take-in n p l))
     where
       go :
-          (o : Option ℕ) → fault p l ≡ o →
+          (o : Option ℕ) →
+          fault p l ≡ o →
           (Before (front ++ (l ∷ [])) (next-place p l) (take-in n p l) →
-          lines text ≡ (front ++ (l ∷ [])) ++ rest →
-          Walked text (walk (next-place p l) (suc (length (front ++ (l ∷ [])))) (take-in n p l) rest)) →
-          Walked text (walk p (suc (length front)) n (l ∷ rest))
-      go none e later =
-          rw (walk-clean p (suc (length front)) n l rest e, ← length-next front l)
-          (later (after b (fault-none p l .0 e)) (here ∙ sym (append-assoc front (l ∷ []) rest)))
-      go (some k) e later =
-          stopped (faulty-line rest fits b here (fault-given k p l .0 e)) (walk-faulty p (suc (length front)) n l rest k e)
+          lines text ≡ (front ++ (l ∷ [])) ++ rest → Some (Says text) (Reads text)) →
+          Some (Says text) (Reads text)
+      go none e later = later (after b (fault-none p l .0 e)) (here ∙ sym (append-assoc front (l ∷ []) rest))
+      go (some k) e later = said (faulty-line rest fits b here (fault-given k p l .0 e))
 
--- Reading a text comes to what the table says, or to the network that the text is of.
-data Answered (text : List ℕ) (r : Reading) : Type 0 where
-  told : {k at : ℕ} → Says text k at → r ≡ refused k at → Answered text r
-  read : {n : Network} → Reads text n → r ≡ network n → Answered text r
+says-or-reads : (text : List ℕ) → Some (Says text) (Reads text)
+says-or-reads text =
+    elim (decLe (length text) most-text) [
+      | yes fits ↦ followed text fits (lines text) [] Opening nothing-read first refl
+      | no h ↦ said (too-long (omega arith))
+    ]
 
-answered : (text : List ℕ) → Answered text (reading text)
-answered text = go (decLe (length text) most-text)
-  where
-    weighing :
-        length text ≤ most-text → {n : Network} → Before (lines text) Closed n →
-        (o : Option ℕ) → first-heavy (n .capacity) 2 (n .gates) ≡ o → Answered text (reading text)
-    weighing fits {n} b none e =
-        let r : Reads text n = record { fits = fits; whole = b; light = heavy-none n .0 e } in
-        read r (network-reads r)
-    weighing fits {n} b (some at) e =
-        let low = heavy-told n at .0 e in
-        let s : Says text 9 (low .0 + 2) = too-heavy fits b (low .1) in
-        told s (refused-says s)
-
-    ended : length text ≤ most-text → Walked text (walk Opening 1 nothing-read (lines text)) → Answered text (reading text)
-    ended fits (stopped s e) = told s (refused-says s)
-    ended fits (whole {n = n} b e) = weighing fits b (first-heavy (n .capacity) 2 (n .gates)) refl
-
-    go : Dec (length text ≤ most-text) → Answered text (reading text)
-    go (yes fits) = ended fits (walked text fits (lines text) [] Opening nothing-read first refl)
-    go (no h) = let s : Says text 1 0 = too-long (omega arith) in told s (refused-says s)
-
-pub says-refused : (text : List ℕ) (k at : ℕ) → reading text ≡ refused k at → Says text k at
-says-refused text k at h = go (answered text)
-  where
-    go : Answered text (reading text) → Says text k at
-    go (told {k = j} {at = i} s e) =
-        let same-k : j ≡ k = cc in
-        let same-at : i ≡ at = cc in
-        rw (← same-k, ← same-at) s
-    go (read r e) = absurd (let z : _≡_ {A = ℕ} 0 1 = cc in omega arith)
-
-pub reads-network : (text : List ℕ) (n : Network) → reading text ≡ network n → Reads text n
-reads-network text n h = go (answered text)
-  where
-    go : Answered text (reading text) → Reads text n
-    go (told s e) = absurd (let z : _≡_ {A = ℕ} 0 1 = cc in omega arith)
-    go (read {n = m} r e) = let same : m ≡ n = cc in rw (← same) r
-
--- Reading answers number k at a line exactly when the table says so.
-pub reading-says : (text : List ℕ) (k at : ℕ) → (reading text ≡ refused k at) ↔ Says text k at
-reading-says text k at = (says-refused text k at, refused-says)
-
--- It answers a network exactly when the text is that network's.
-pub reading-reads : (text : List ℕ) (n : Network) → (reading text ≡ network n) ↔ Reads text n
-reading-reads text n = (reads-network text n, network-reads)
-
--- It answers a network exactly when the table says nothing.
-pub network-says-nothing :
-    (text : List ℕ) → ((n : Network) × (reading text ≡ network n)) ↔ ((k at : ℕ) → Says text k at → ⊥)
-network-says-nothing text = (to, λ nothing. from nothing (answered text))
-  where
-    to : (n : Network) × (reading text ≡ network n) → (k at : ℕ) → Says text k at → ⊥
-    to r k at s = let e = r .1 in let e′ = refused-says s in let z : _≡_ {A = ℕ} 0 1 = cc in omega arith
-
-    from : ((k at : ℕ) → Says text k at → ⊥) → Answered text (reading text) → (n : Network) × (reading text ≡ network n)
-    from nothing (told {k = k} {at = at} s e) = absurd (nothing k at s)
-    from nothing (read {n = n} r e) = (n, e)
-
--- The table never says two things of a text, and a text is never two networks'.
-pub says-one : {text : List ℕ} {k j at i : ℕ} → Says text k at → Says text j i → (k ≡ j) × (at ≡ i)
-says-one a b = let e = refused-says a in let e′ = refused-says b in (cc, cc)
-
-pub reads-one : {text : List ℕ} {n m : Network} → Reads text n → Reads text m → n ≡ m
-reads-one a b = let e = network-reads a in let e′ = network-reads b in cc
+-- Reading answers number k at a line exactly when the table says so, and a network exactly when the table says nothing.
+pub reading-exactly : (text : List ℕ) → Exactly (Says text) (Reads text) (reading text)
+reading-exactly text =
+    exactly (Says text) (Reads text) (reading text) (refused-says text) (network-reads text) (says-or-reads text)

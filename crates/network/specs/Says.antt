@@ -61,3 +61,8 @@ pub data SaysRoom (text : List ℕ) (rows : Rows) : ℕ → ℕ → Type 0 where
   of-text : {k at : ℕ} → Says text k at → SaysRoom text rows k at
   -- "then 10", line 0
   short-row : {n : Network} → Reads text n → Short (size n) rows → SaysRoom text rows 10 0
+
+-- The text is this network's, and every row has room for it.
+pub record ReadsRoom (text : List ℕ) (rows : Rows) (n : Network) : Type 0 where
+  pub reads : Reads text n
+  pub room : Short (size n) rows → ⊥
