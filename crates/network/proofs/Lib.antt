@@ -1,5 +1,5 @@
-pub mod Examples
 pub mod Exactly
 pub mod Table
 pub mod Heavy
 pub mod Room
+pub mod Cases
