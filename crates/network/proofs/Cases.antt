@@ -1,18 +1,13 @@
 -- P7 and P10 to P13 of document 01, and cases that go wrong easily, each with its answer: one table, one statement.
 use Prim.Native.Nat.{ℕ, zero, suc}
-use Prim.Native.Char.{Char, code}
-use Prim.Native.String.{String, [] as end, _∷_ as _then_}
+use Prim.Native.String.{String}
 use mathlib.Core.Path.{_≡_, refl}
 use mathlib.Core.List.{List, [], _∷_, _++_, map}
 use lib.ListN.{replicate}
 use Rattle.model.specs.Network.{Gate, Network}
+use Rattle.frames.proofs.Typed.{typed}
 use Rattle.network.specs.Reading.{Reading, refused, network, reading}
 use Rattle.network.specs.Rows.{Rows, answer}
-
--- the bytes of a text as it is typed
-typed : String → List ℕ
-typed end = []
-typed (c then s) = code c ∷ typed s
 
 -- texts one after the other
 infixl 70 _&_
