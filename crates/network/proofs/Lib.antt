@@ -3,3 +3,4 @@ pub mod Table
 pub mod Heavy
 pub mod Room
 pub mod Cases
+pub mod Lines
