@@ -1,6 +1,6 @@
 -- Laws of specs/Says.antt with rows lent: number 10 is added, after all others.
-use Prim.Native.Nat.{ℕ, _*_, _<_}
-use mathlib.Core.Path.{_≡_, refl, sym, _∙_, ap}
+use Prim.Native.Nat.{ℕ, _*_}
+use mathlib.Core.Path.{_≡_, refl, _∙_, ap}
 use mathlib.Core.Logic.{_↔_, _⊎_, inl, inr, ⊎-elim}
 use mathlib.Core.Bool.{Bool, true, false, cond, _||_}
 use mathlib.Core.List.{List}
@@ -12,7 +12,7 @@ use Rattle.model.specs.Ceilings.{most-fanins}
 use Rattle.model.specs.Network.{Network, size}
 use Rattle.network.specs.Reading.{Reading, refused, network, reading}
 use Rattle.network.specs.Rows.{Rows, too-short, in-room, answer}
-use Rattle.network.specs.Says.{Says, Reads, Short, weights, delays, counts, fanins, SaysRoom, of-text, short-row, ReadsRoom}
+use Rattle.network.specs.Says.{Reads, Short, weights, delays, counts, fanins, SaysRoom, of-text, short-row, ReadsRoom}
 use Rattle.network.proofs.Exactly.{Exactly, Some, said, read, exactly}
 use Rattle.network.proofs.Table.{reading-exactly}
 

@@ -1,30 +1,27 @@
 -- Laws of specs/Says.antt: reading a text answers number k at a line exactly when the table says so, and a network exactly
 -- when the table says nothing.
--- Both directions follow the lines. After faultless lines the walk stands where `Before` says, so what the table says of the
--- rest is what the walk does there; and a walk that stops tells the line that it stopped at, or that none was left.
-use Prim.Native.Nat.{ℕ, zero, suc, _+_, _≤_, _<_}
+-- After faultless lines the walk stands where `Before` says, so what the table says of the next line, of the end or of the
+-- weights is what reading answers there. And of every text it says something or a network is read: follow the lines until
+-- one is faulty or none is left, then look at the place and at the weights. An answer is never two answers, so both are
+-- "exactly when".
+use Prim.Native.Nat.{ℕ, suc, _+_, _≤_, _<_}
 use mathlib.Core.Path.{_≡_, refl, sym, _∙_, ap}
-use mathlib.Core.Logic.{_↔_, _⊎_, inl, inr, ⊎-elim}
-use mathlib.Core.Bool.{Bool, true, false, cond, _||_}
 use mathlib.Core.List.{List, [], _∷_, _++_, append-nil, append-assoc}
 use mathlib.Core.Option.{Option, none, some}
 use native.Mathlib.Decide.{decLe}
 use native.Mathlib.Omega.{arith}
-use borrow.Author.Tests.{ltb-true, ltb-false, lt-ltb, le-ltb}
-use lib.Dec.{ltb}
+use borrow.Author.Tests.{lt-ltb, le-ltb}
 use lib.ListN.{length, length-append}
-use Rattle.model.specs.Network.{Gate, Network, size, weight, Heavy}
+use Rattle.model.specs.Network.{Network}
 use Rattle.frames.specs.declared.Place.{Place}
 use Rattle.frames.specs.declared.Place.the-variants.{Opening, AfterGates, Closed}
 use Rattle.frames.specs.Text.{Line, lines}
 use Rattle.frames.specs.Table.{fault, next-place}
-use Rattle.frames.specs.Fault.{Given, Faultless}
 use Rattle.frames.proofs.Fault.{fault-given, fault-none}
 use Rattle.network.proofs.Exactly.{Exactly, Some, said, read, exactly}
 use Rattle.network.proofs.Heavy.{heavy-told, heavy-none}
-use Rattle.network.specs.Reading.{Reading, refused, network, most-text, nothing-read, take-in, at-the-end, unless, walk, first-heavy, told-heavy, weigh, reading}
-use Rattle.network.specs.Rows.{Rows, too-short, in-room, answer}
-use Rattle.network.specs.Says.{Before, first, after, LowestHeavy, Says, too-long, faulty-line, no-end, too-heavy, Reads, Short, SaysRoom, of-text, short-row}
+use Rattle.network.specs.Reading.{refused, network, most-text, nothing-read, take-in, at-the-end, unless, walk, first-heavy, told-heavy, weigh, reading}
+use Rattle.network.specs.Says.{Before, first, after, Says, too-long, faulty-line, no-end, too-heavy, Reads}
 
 -- the walk, line by line
 
