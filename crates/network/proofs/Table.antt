@@ -56,20 +56,12 @@ open-end Opening at n h = refl
 open-end (AfterGates g) at n h = refl
 open-end Closed at n h = absurd (h refl)
 
-walk-end : (p : Place) (at : ℕ) (n : Network) → walk p at n [] ≡ at-the-end p at n
-unfolding walk
-walk-end p at n = refl
-
-closed-end : (at : ℕ) (n : Network) → at-the-end Closed at n ≡ network n
-unfolding at-the-end
-closed-end at n = refl
-
 -- all lines faultless: the walk ends where they lead
 walk-whole :
     {ls : List Line} {p : Place} {n : Network} →
     Before ls p n → walk Opening 1 nothing-read ls ≡ at-the-end p (suc (length ls)) n
-walk-whole {ls} {p} {n} b =
-    ap (walk Opening 1 nothing-read) (sym (append-nil ls)) ∙ walk-past b [] ∙ walk-end p (suc (length ls)) n
+unfolding walk
+walk-whole {ls} b = ap (walk Opening 1 nothing-read) (sym (append-nil ls)) ∙ walk-past b []
 
 -- reading, a part at a time
 
@@ -81,24 +73,9 @@ read-fitting : (text : List ℕ) → length text ≤ most-text → reading text 
 unfolding reading
 read-fitting text h = rw (le-ltb most-text (length text) h)
 
-weigh-refused : (k at : ℕ) → weigh (refused k at) ≡ refused k at
-unfolding weigh
-weigh-refused k at = refl
-
-weigh-network : (n : Network) → weigh (network n) ≡ told-heavy (first-heavy (n .capacity) 2 (n .gates)) n
-unfolding weigh
-weigh-network n = refl
-
-told-some : (at : ℕ) (n : Network) → told-heavy (some at) n ≡ refused 9 at
-unfolding told-heavy
-told-some at n = refl
-
-told-none : (n : Network) → told-heavy none n ≡ network n
-unfolding told-heavy
-told-none n = refl
-
 -- Where the table says a number, reading answers it.
 refused-says : (text : List ℕ) (k at : ℕ) → Says text k at → reading text ≡ refused k at
+unfolding weigh at-the-end told-heavy
 refused-says text _ _ (too-long h) = read-too-long text h
 refused-says text _ _ (faulty-line {front = front} {l = l} {p = p} {n = n} {k = k} back fits b here given) =
     read-fitting text fits
@@ -106,26 +83,16 @@ refused-says text _ _ (faulty-line {front = front} {l = l} {p = p} {n = n} {k = 
     (ap (walk Opening 1 nothing-read) here
     ∙ walk-past b (l ∷ back)
     ∙ walk-faulty p (suc (length front)) n l back k (fault-given k p l .1 given))
-    ∙ weigh-refused k (suc (length front))
 refused-says text _ _ (no-end {p = p} {n = n} fits b h) =
-    read-fitting text fits
-    ∙ ap weigh (walk-whole b ∙ open-end p (suc (length (lines text))) n h)
-    ∙ weigh-refused 3 (suc (length (lines text)))
+    read-fitting text fits ∙ ap weigh (walk-whole b ∙ open-end p (suc (length (lines text))) n h)
 refused-says text _ _ (too-heavy {n = n} {v = v} fits b h) =
-    read-fitting text fits
-    ∙ ap weigh (walk-whole b ∙ closed-end (suc (length (lines text))) n)
-    ∙ weigh-network n
-    ∙ ap (λ o. told-heavy o n) (heavy-told n (v + 2) .1 (v, h, refl))
-    ∙ told-some (v + 2) n
+    read-fitting text fits ∙ ap weigh (walk-whole b) ∙ ap (λ o. told-heavy o n) (heavy-told n (v + 2) .1 (v, h, refl))
 
 -- Where the text is a network's, reading answers that network.
 network-reads : (text : List ℕ) (n : Network) → Reads text n → reading text ≡ network n
+unfolding weigh at-the-end told-heavy
 network-reads text n r =
-    read-fitting text (r .fits)
-    ∙ ap weigh (walk-whole (r .whole) ∙ closed-end (suc (length (lines text))) n)
-    ∙ weigh-network n
-    ∙ ap (λ o. told-heavy o n) (heavy-none n .1 (r .light))
-    ∙ told-none n
+    read-fitting text (r .fits) ∙ ap weigh (walk-whole (r .whole)) ∙ ap (λ o. told-heavy o n) (heavy-none n .1 (r .light))
 
 -- The table says something of a text, or the text is a network's: the lines are followed until one is faulty or none is left.
 module _ (text : List ℕ) (fits : length text ≤ most-text) where
