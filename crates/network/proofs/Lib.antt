@@ -1,3 +1,4 @@
+-- Spelling and reading undo each other; what an accepted text is; what the table says of a text; texts with their answers.
 pub mod Tests
 pub mod Digits
 pub mod Lines
@@ -9,4 +10,9 @@ pub mod Rows
 pub mod Spelled
 pub mod RowsCheck
 pub mod RoundTrip
-pub mod Examples
+pub mod Heavy
+pub mod Exactly
+pub mod Table
+pub mod Room
+pub mod GateLines
+mod Cases
