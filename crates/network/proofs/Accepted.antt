@@ -124,13 +124,14 @@ unfolding spell-network
 network-text n =
     join-framed (spell-line (header-bytes (n .capacity) (n .hop))) (map gate-text (n .gates)) (spell-line (end-bytes (size n)))
 
-record Walked (n : Network) (ls : List Line) : Type 0 where
-  capacity : n .capacity ≤ most-capacity
-  hop : n .hop ≤ most-hop
-  some-gate : 0 < size n
-  fit : AllFit 0 (n .gates)
-  ended : AllEnded ls
-  again : spell-network n ≡ join (map line-text ls)
+-- what lines without fault, the last of them the end, come to
+pub record Walked (n : Network) (ls : List Line) : Type 0 where
+  pub capacity : n .capacity ≤ most-capacity
+  pub hop : n .hop ≤ most-hop
+  pub some-gate : 0 < size n
+  pub fit : AllFit 0 (n .gates)
+  pub ended : AllEnded ls
+  pub again : spell-network n ≡ join (map line-text ls)
 
 opened : (l : Line) (ls : List Line) (m : Network) → HeaderLine l → Gates 0 (with-header nothing-read l) m ls → Walked m (l ∷ ls)
 unfolding with-header nothing-read size join
@@ -145,7 +146,7 @@ opened l ls m h r =
       again = network-text m ∙ rw (r .capacity, r .hop, r .gates, h .again, r .again, c);
     }
 
-walked : (ls : List Line) (m : Network) → walk Opening 1 nothing-read ls ≡ network m → Walked m ls
+pub walked : (ls : List Line) (m : Network) → walk Opening 1 nothing-read ls ≡ network m → Walked m ls
 unfolding walk
 walked [] m e = never cc
 walked (l ∷ ls) m e =

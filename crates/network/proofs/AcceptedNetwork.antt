@@ -87,41 +87,55 @@ everywhere P gs z f v =
       | no h ↦ rw (List·getD-eq-default gs no-gate {n = v} (omega arith)) (z v)
     ]
 
-module _ (text : List ℕ) (n : Network) (e : reading text ≡ network n) where
+-- gates that all fit, heavy or not
+module _ (n : Network) (some-gate : 0 < size n) (fit : AllFit 0 (n .gates)) where
   fits : (v : ℕ) → v < length (n .gates) → Fit v (getD (n .gates) v no-gate)
   fits v h =
       let c : 0 + v ≡ v = omega arith in
-      rw c at (fit-at 0 (n .gates) (accepted-text text n e .fit) v no-gate h)
+      rw c at (fit-at 0 (n .gates) fit v no-gate h)
 
   in-order : (v : ℕ) → rising-from 0 v (fanins n v) ≡ true
   unfolding fanins rising-from
   in-order =
       everywhere (λ v g. rising-from 0 v (g .fanins) ≡ true) (n .gates) (λ v. refl) (λ v h. fits v h .rising)
 
+  fan-in-below : (v x : ℕ) → x ∈ fanins n v → x < v
+  fan-in-below v = rising-below 0 v (fanins n v) (in-order v)
+
+  pub fit-well-formed : WellFormed n
+  unfolding position
+  fit-well-formed =
+      record {
+        some-gate = some-gate;
+        known = λ v x m. omega (arith, fan-in-below v x m, reader-known n v x m);
+        below = fan-in-below;
+      }
+
+module _ (text : List ℕ) (n : Network) (e : reading text ≡ network n) where
+  pub accepted-well-formed : WellFormed n
+  accepted-well-formed = let t = accepted-text text n e in fit-well-formed n (t .some-gate) (t .fit)
+
   pub accepted-network : AcceptedNetwork n
   unfolding size fanins weight delay
   accepted-network =
       let t = accepted-text text n e in
+      let each = fits n (t .some-gate) (t .fit) in
+      let wf = accepted-well-formed in
       record {
         some-gate = t .some-gate;
-        gates = let s = t .some-gate in omega (arith, fits (pred (length (n .gates))) (omega arith) .number);
-        fan-ins = everywhere (λ v g. length (g .fanins) ≤ most-fanins) (n .gates) (λ v. omega arith) (λ v h. fits v h .few);
-        rising = λ v. rising-steps 0 v (fanins n v) (in-order v);
-        below = λ v. rising-below 0 v (fanins n v) (in-order v);
-        known = λ v x m. omega (arith, rising-below 0 v (fanins n v) (in-order v) x m, reader-known n v x m);
-        weights = everywhere (λ v g. g .weight ≤ most-weight) (n .gates) (λ v. omega arith) (λ v h. fits v h .weight);
-        delays = everywhere (λ v g. g .delay ≤ most-delay) (n .gates) (λ v. omega arith) (λ v h. fits v h .delay);
+        gates = let s = t .some-gate in omega (arith, each (pred (length (n .gates))) (omega arith) .number);
+        fan-ins = everywhere (λ v g. length (g .fanins) ≤ most-fanins) (n .gates) (λ v. omega arith) (λ v h. each v h .few);
+        rising = λ v. rising-steps 0 v (fanins n v) (in-order n (t .some-gate) (t .fit) v);
+        below = fan-in-below n (t .some-gate) (t .fit);
+        known = wf .known;
+        weights = everywhere (λ v g. g .weight ≤ most-weight) (n .gates) (λ v. omega arith) (λ v h. each v h .weight);
+        delays = everywhere (λ v g. g .delay ≤ most-delay) (n .gates) (λ v. omega arith) (λ v h. each v h .delay);
         hop = t .hop;
         capacity = t .capacity;
         light =
             everywhere (λ v g. g .weight ≤ n .capacity) (n .gates) (λ v. omega arith)
             (λ v. light-at (n .capacity) 2 (n .gates) (t .light) v no-gate);
       }
-
-  pub accepted-well-formed : WellFormed n
-  unfolding position
-  accepted-well-formed =
-      let a = accepted-network in record { some-gate = a .some-gate; known = a .known; below = a .below }
 
   pub accepted-within-ceilings : WithinCeilings n
   accepted-within-ceilings =
