@@ -57,7 +57,7 @@ open-end (AfterGates g) at n h = refl
 open-end Closed at n h = absurd (h refl)
 
 -- all lines faultless: the walk ends where they lead
-walk-whole :
+pub walk-whole :
     {ls : List Line} {p : Place} {n : Network} →
     Before ls p n → walk Opening 1 nothing-read ls ≡ at-the-end p (suc (length ls)) n
 unfolding walk
