@@ -1,8 +1,114 @@
-// One line of a network's text: hexadecimal read into a frame, or the number of its refusal.
+// One line of a network's text: hexadecimal read into a frame, or the number of its refusal with its line.
+//
+// `read_line` finds the line that begins at a place of the text and answers by the table of refusal numbers: 2 for the
+// line's form, then by what stood before it 3 for its type, 4 for its length, 5 and 6 for a gate, 7 and 8 for the end.
+// `fan_in` reads one fan-in of a gate line. Numbers are read with digits that are none counting 16, so that no number
+// has to be refused before its line is.
+ghost use mathlib.Core.Path.{_≡_};
+ghost use mathlib.Core.Bool.{true, false, not};
+ghost use Prim.Native.Nat.{_+_, _*_, _^_, _≤_, _<_};
+ghost use lib.ListN.{length, drop};
+ghost use Rattle.frames.specs.Text as text-of;
+ghost use Rattle.frames.specs.Table.{malformed, kind};
+ghost use Rattle.frames.specs.Frames.{digit-at, byte-from, word-from, long-from, fan-in-from, line-from, line-length, judged, line-read};
+ghost use Rattle.frames.specs.declared.Place.the-variants.{Opening, AfterGates};
+use units::Cells;
+use units::Counted;
+use units::FanInCount;
+use units::GateNumber;
+use units::Numbered;
+use units::Ticks;
 
 // What stood before a line: nothing; the header and so many gates; the end frame.
 pub enum Place {
     Opening,
     AfterGates(usize),
     Closed,
+}
+
+// What reading a line gives: a frame and where the next line begins, a refusal, or that the text ends here.
+pub enum LineRead {
+    Header {
+        capacity: Cells,
+        hop: Ticks,
+        next: usize,
+    },
+    Gate {
+        weight: Cells,
+        delay: Ticks,
+        count: FanInCount,
+        next: usize,
+    },
+    End {
+        next: usize,
+    },
+    Refused {
+        number: u8,
+        line: usize,
+    },
+    Nothing,
+}
+
+// What a byte counts for as a digit, 16 where it is none.
+fn digit(b: u8) -> u8
+    ensures { λ r. ⌜ r ≡ text-of.digit b ⌝ }
+{
+    match b {
+        b'0'..=b'9' => b - b'0',
+        // A counts ten.
+        b'A'..=b'F' => b - b'A' + 10,
+        _ => 16,
+    }
+}
+
+// The digit at a place of the text; a place past its end holds none.
+fn digit_at(text: &[u8], k: usize) -> u64
+    ensures { λ r. ⌜ r ≡ digit-at (now (text .entry)) k ⌝ }
+{
+    if k < text.len() {
+        digit(text[k]) as u64
+    } else {
+        16
+    }
+}
+
+// The byte that two digits spell.
+fn byte_at(text: &[u8], k: usize) -> u64
+    requires { ⌜ k + 2 < 2 ^ 64 ⌝ }
+    ensures { λ r. ⌜ r ≡ byte-from (now (text .entry)) k ⌝ }
+{
+    16 * digit_at(text, k) + digit_at(text, k + 1)
+}
+
+// The number that two bytes spell.
+fn word_at(text: &[u8], k: usize) -> u64
+    requires { ⌜ k + 4 < 2 ^ 64 ⌝ }
+    ensures { λ r. ⌜ r ≡ word-from (now (text .entry)) k ⌝ }
+{
+    256 * byte_at(text, k) + byte_at(text, k + 2)
+}
+
+// The number that four bytes spell.
+fn long_at(text: &[u8], k: usize) -> u64
+    requires { ⌜ k + 8 < 2 ^ 64 ⌝ }
+    ensures { λ r. ⌜ r ≡ long-from (now (text .entry)) k ⌝ }
+{
+    65_536 * word_at(text, k) + word_at(text, k + 4)
+}
+
+// The first fan-in of a gate line stands behind twelve digits: type, weight, delay and fan-in count.
+const BEFORE_FAN_INS: usize = 12;
+
+// Four digits that are none, each counting 16.
+const NO_FAN_IN: u32 = 69_904;
+
+// The i-th fan-in of the gate line that begins at `at`: the number of its four digits, missing ones counting 16.
+pub fn fan_in(text: &[u8], at: usize, i: usize) -> u32
+    ensures { λ r. ⌜ r ≡ fan-in-from (now (text .entry)) at i ⌝ }
+{
+    let len = text.len();
+    if at < len && i < (len - at) / 4 {
+        return word_at(text, at + BEFORE_FAN_INS + 4 * i) as u32;
+    }
+    NO_FAN_IN
 }
