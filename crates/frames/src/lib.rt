@@ -8,6 +8,7 @@ ghost use mathlib.Core.Path.{_≡_};
 ghost use mathlib.Core.Bool.{true, false, not};
 ghost use Prim.Native.Nat.{_+_, _*_, _^_, _≤_, _<_};
 ghost use lib.ListN.{length, drop};
+ghost use lib.Seq.{slice};
 ghost use Rattle.frames.specs.Text as text-of;
 ghost use Rattle.frames.specs.Table.{malformed, kind};
 ghost use Rattle.frames.specs.Frames.{digit-at, byte-from, word-from, long-from, fan-in-from, line-from, line-length, judged, line-read};
@@ -111,4 +112,34 @@ pub fn fan_in(text: &[u8], at: usize, i: usize) -> u32
         return word_at(text, at + BEFORE_FAN_INS + 4 * i) as u32;
     }
     NO_FAN_IN
+}
+
+// The line feed, 0A.
+const LINE_FEED: u8 = 10;
+
+// Where the line ends that begins at `at`: at its line feed, or at the text's end where it has none.
+fn line_end(text: &[u8], at: usize) -> usize
+    requires { ⌜ at ≤ length (now text) ⌝ }
+    ensures { λ r. ⌜ r ≡ at + line-length (drop at (now (text .entry))) ⌝ }
+{
+    let mut i = at;
+    while i < text.len() && text[i] != LINE_FEED {
+        i += 1;
+    }
+    i
+}
+
+// Whether every byte from `at` up to `end` is a digit.
+fn all_digits(text: &[u8], at: usize, end: usize) -> bool
+    requires { ⌜ end ≤ length (now text) ⌝ }
+    ensures { λ r. ⌜ r ≡ text-of.all-digits (slice at end (now (text .entry))) ⌝ }
+{
+    let mut i = at;
+    while i < end {
+        if digit(text[i]) == 16 {
+            return false;
+        }
+        i += 1;
+    }
+    true
 }
