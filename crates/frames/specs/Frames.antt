@@ -70,5 +70,5 @@ unfoldable pub line-length : List ℕ → ℕ
 line-length [] = 0
 line-length (b ∷ bs) = cond (eqb b line-feed) 0 (suc (line-length bs))
 
-unfoldable pub line-from : List ℕ → ℕ → ℕ → Line
+abbrev pub line-from : List ℕ → ℕ → ℕ → Line
 line-from text at end = record { digits = slice at end text; ended = ltb end (length text) }

@@ -10,7 +10,7 @@ ghost use Prim.Native.Nat.{_+_, _*_, _^_, _≤_, _<_};
 ghost use lib.ListN.{length, drop};
 ghost use lib.Seq.{slice};
 ghost use Rattle.frames.specs.Text as text-of;
-ghost use Rattle.frames.specs.Table.{malformed, kind};
+ghost use Rattle.frames.specs.Table.{malformed, kind, rising-from};
 ghost use Rattle.frames.specs.Frames.{digit-at, byte-from, word-from, long-from, fan-in-from, line-from, line-length, judged, line-read};
 ghost use Rattle.frames.specs.declared.Place.the-variants.{Opening, AfterGates};
 use units::Cells;
@@ -140,6 +140,69 @@ fn all_digits(text: &[u8], at: usize, end: usize) -> bool
             return false;
         }
         i += 1;
+    }
+    true
+}
+
+// Whether the line from `at` up to `end` is of the right form: not empty, ended, an even number of digits and nothing
+// else. Refusal 2 is given where it is not.
+fn well_formed(text: &[u8], at: usize, end: usize) -> bool
+    requires { ⌜ end ≤ length (now text) ⌝ }
+    ensures { λ r. ⌜ r ≡ not (malformed Opening (line-from (now (text .entry)) at end)) ⌝ }
+{
+    if end <= at {
+        return false;
+    }
+    if text.len() <= end {
+        return false;
+    }
+    let odd = (end - at) % 2;
+    if odd != 0 {
+        return false;
+    }
+    all_digits(text, at, end)
+}
+
+// The types of a network's frames.
+const HEADER_TYPE: u64 = 0x01;
+
+const GATE_TYPE: u64 = 0x02;
+
+const END_TYPE: u64 = 0x0F;
+
+// A well-formed line that opens the text: a header frame has seven bytes, the type, M (4) and D (2).
+fn read_header(text: &[u8], at: usize, end: usize, line: usize) -> LineRead
+    requires { ⌜ malformed Opening (line-from (now text) at end) ≡ false ⌝ }
+    ensures { λ r. ⌜ r ≡ judged at Opening line (line-from (now (text .entry)) at end) ⌝ }
+{
+    if byte_at(text, at) != HEADER_TYPE {
+        return LineRead::Refused { number: 3, line };
+    }
+    if end - at != 14 {
+        return LineRead::Refused { number: 4, line };
+    }
+    LineRead::Header {
+        capacity: Cells(long_at(text, at + 2)),
+        hop: Ticks(word_at(text, at + 10)),
+        next: end + 1,
+    }
+}
+
+// Whether the numbers of four digits from `from` up to `end` rise strictly and are all below a gate's own number.
+fn rising(text: &[u8], from: usize, end: usize, gate: GateNumber) -> bool
+    requires { ⌜ (from ≤ end) × (end ≤ length (now text)) ⌝ }
+    ensures { λ r. ⌜ r ≡ rising-from 0 (gate .0) (text-of.words (text-of.bytes (slice from end (now (text .entry))))) ⌝ }
+{
+    let bound = gate.0 as u64;
+    let mut least = 0;
+    let mut k = from;
+    while 4 <= end - k {
+        let x = word_at(text, k);
+        if x < least || bound <= x {
+            return false;
+        }
+        least = x + 1;
+        k += 4;
     }
     true
 }
