@@ -31,6 +31,17 @@ length-words [] = refl
 length-words (a ∷ []) = refl
 length-words (a ∷ b ∷ bs) = omega (arith, length-words bs)
 
+-- What is left behind i bytes is spelled by what is left behind 2i digits.
+pub drop-bytes : (ds : List ℕ) (i j : ℕ) → j ≡ 2 * i → drop i (bytes ds) ≡ bytes (drop j ds)
+unfolding bytes
+drop-bytes ds zero zero e = refl
+drop-bytes ds zero (suc j) e = absurd (omega arith)
+drop-bytes ds (suc i) zero e = absurd (omega arith)
+drop-bytes ds (suc i) (suc zero) e = absurd (omega arith)
+drop-bytes [] (suc i) (suc (suc j)) e = refl
+drop-bytes (a ∷ []) (suc i) (suc (suc j)) e = refl
+drop-bytes (a ∷ b ∷ ds) (suc i) (suc (suc j)) e = drop-bytes ds i j (omega arith)
+
 -- Two digits make a byte, and two bytes a word.
 byte-here : (ds : List ℕ) (i j : ℕ) → j ≡ 2 * i → suc j < length ds
     → getD (bytes ds) i 0 ≡ 16 * digit (getD ds j 0) + digit (getD ds (suc j) 0)

@@ -4,4 +4,7 @@ pub mod Bytes
 pub mod Rows
 pub mod Formed
 pub mod OfLine
-pub mod Answers
+pub mod Header
+pub mod AfterHeader
+pub mod Gate
+pub mod End

@@ -4,13 +4,19 @@ use mathlib.Core.Path.{_≡_, refl, sym, ap, ap₂, _∙_}
 use mathlib.Core.Bool.{Bool, true, false}
 use mathlib.Core.List.{List, [], _∷_}
 use native.Mathlib.Omega.{arith}
-use lib.ListN.{length, getD, drop, length-drop}
-use lib.Seq.{slice, length-slice, getD-drop}
+use lib.ListN.{length, getD, drop, take, length-drop}
+use lib.Seq.{slice, length-slice, getD-drop, drop-drop}
 use Rattle.frames.specs.Text.{Line, bytes, word-at, words}
 use Rattle.frames.specs.Table.{kind, frame-length, header-capacity, header-hop, gate-count, gate-fanins, gate-of, end-count}
 use Rattle.frames.specs.Frames.{line-from, byte-from, word-from, long-from, fan-in-from}
 use Rattle.frames.proofs.Formed.{Formed}
-use Rattle.frames.proofs.Bytes.{length-bytes, length-words, line-byte, line-word, line-long, word-here}
+use Rattle.frames.proofs.Bytes.{length-bytes, drop-bytes, length-words, line-byte, line-word, line-long, word-here}
+
+-- The fan-ins of a gate line are the words behind its first twelve digits.
+pub fanins-are : (text : List ℕ) (at end : ℕ) → gate-fanins (line-from text at end) ≡ words (bytes (slice (at + 12) end text))
+unfolding gate-fanins
+fanins-are text at end =
+    ap words (drop-bytes (slice at end text) 6 12 refl ∙ ap bytes (drop-drop 12 at (take end text)))
 
 module _ {text : List ℕ} {at end : ℕ} (f : Formed text at end) where
   fits : end ≤ length text

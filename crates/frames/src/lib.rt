@@ -206,3 +206,48 @@ fn rising(text: &[u8], from: usize, end: usize, gate: GateNumber) -> bool
     }
     true
 }
+
+// A well-formed line of type 02, after a header and so many gates: 4 by its length and count, 5 by its number, 6 by its
+// fan-ins.
+fn read_gate(text: &[u8], at: usize, end: usize, gates: usize, line: usize) -> LineRead
+    requires { ⌜ (malformed Opening (line-from (now text) at end) ≡ false) × (byte-from (now text) at ≡ 0x02) ⌝ }
+    ensures { λ r. ⌜ r ≡ judged at (AfterGates gates) line (line-from (now (text .entry)) at end) ⌝ }
+{
+    let fan_ins = byte_at(text, at + 10) as usize;
+    let Counted::Made(count) = FanInCount::new(fan_ins) else {
+        return LineRead::Refused { number: 4, line };
+    };
+    if end - at != BEFORE_FAN_INS + 4 * fan_ins {
+        return LineRead::Refused { number: 4, line };
+    }
+    let Numbered::Made(gate) = GateNumber::new(gates) else {
+        return LineRead::Refused { number: 5, line };
+    };
+    if !rising(text, at + BEFORE_FAN_INS, end, gate) {
+        return LineRead::Refused { number: 6, line };
+    }
+    LineRead::Gate {
+        weight: Cells(word_at(text, at + 2)),
+        delay: Ticks(word_at(text, at + 6)),
+        count,
+        next: end + 1,
+    }
+}
+
+// A well-formed line of type 0F, after a header and so many gates: an end frame has three bytes, the type and the
+// number of gates (2).
+fn read_end(text: &[u8], at: usize, end: usize, gates: usize, line: usize) -> LineRead
+    requires { ⌜ (malformed Opening (line-from (now text) at end) ≡ false) × (byte-from (now text) at ≡ 0x0F) ⌝ }
+    ensures { λ r. ⌜ r ≡ judged at (AfterGates gates) line (line-from (now (text .entry)) at end) ⌝ }
+{
+    if end - at != 6 {
+        return LineRead::Refused { number: 4, line };
+    }
+    if word_at(text, at + 2) != gates as u64 {
+        return LineRead::Refused { number: 7, line };
+    }
+    if gates == 0 {
+        return LineRead::Refused { number: 8, line };
+    }
+    LineRead::End { next: end + 1 }
+}

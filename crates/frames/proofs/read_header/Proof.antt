@@ -3,7 +3,7 @@ use mathlib.Core.Path.{_≡_, sym, ap, ap₂, _∙_}
 use native.Mathlib.Omega.{arith}
 use Rattle.frames.specs.declared.Place.the-variants.{Opening}
 use Rattle.frames.proofs.Formed.{formed}
-use Rattle.frames.proofs.Answers.{header-3, header-4, header-read}
+use Rattle.frames.proofs.Header.{header-3, header-4, header-read}
 use Rattle.frames.proofs.read_header.Statement.{statement}
 use Rattle.frames.proofs.read_header.Tie as tie
 use Rattle.frames.proofs.read_header.Reads as reads

@@ -1,26 +1,24 @@
--- What a well-formed line answers in each place, in the words of the code: the numbers that stand in the text, and the
--- digits between `at` and `end`.
-use Prim.Native.Nat.{ℕ, suc, _+_, _*_, _-_, _/_, _%_, _≤_, _<_}
-use mathlib.Core.Path.{_≡_, refl, sym, ap, ap₂, _∙_}
-use mathlib.Core.Bool.{Bool, true, false, cond, not, _||_, _&&_, or-true}
-use mathlib.Core.List.{List, [], _∷_}
+-- What a well-formed line answers that opens the text, in the words of the code: the numbers that stand in the text, and
+-- the digits between `at` and `end`.
+use Prim.Native.Nat.{ℕ, _+_, _-_}
+use mathlib.Core.Path.{_≡_, refl, sym, ap, _∙_}
+use mathlib.Core.Bool.{true, false, not}
+use mathlib.Core.List.{List}
 use native.Mathlib.Omega.{arith}
-use lib.ListN.{length, getD, drop}
+use lib.ListN.{length}
 use lib.Seq.{slice}
-use lib.Dec.{ltb, leb, eqb}
-use borrow.Author.Tests.{ltb-true, ltb-false, lt-ltb, le-ltb, eqb-true, eqb-false, eq-eqb, ne-eqb, le-leb, lt-leb}
-use Rattle.model.specs.Ceilings.{most-gates, most-fanins}
+use lib.Dec.{eqb}
+use borrow.Author.Tests.{eq-eqb, ne-eqb}
 use Rattle.units.specs.Units.{cells, ticks}
 use Rattle.frames.specs.declared.Place.{Place}
-use Rattle.frames.specs.declared.Place.the-variants.{Opening, AfterGates, Closed}
-use Rattle.frames.specs.declared.LineRead.{LineRead}
-use Rattle.frames.specs.declared.LineRead.the-variants.{Header, Gate, End, Refused}
+use Rattle.frames.specs.declared.Place.the-variants.{Opening}
+use Rattle.frames.specs.declared.LineRead.the-variants.{Header, Refused}
 use Rattle.frames.specs.Text.{Line}
-use Rattle.frames.specs.Table.{malformed, misplaced, wrong-length, one-too-many, unordered, miscounted, no-gates, rising-from, kind, frame-length, header-capacity, header-hop, gate-count, gate-fanins, gate-of, end-count}
-use Rattle.frames.specs.Frames.{line-from, byte-from, word-from, long-from, fan-in-from, frame, judged}
-use Rattle.frames.proofs.Formed.{Formed, formed, any-place}
-use Rattle.frames.proofs.Rows.{judged-2, judged-3, judged-4, judged-5, judged-6, judged-7, judged-8, judged-frame}
-use Rattle.frames.proofs.OfLine.{kind-is, length-is, next-is, capacity-is, hop-is, end-count-is, count-is, weight-is, delay-is, fanins-length, fanin-is}
+use Rattle.frames.specs.Table.{malformed, misplaced, wrong-length, one-too-many, unordered, miscounted, no-gates, kind, frame-length, header-capacity, header-hop}
+use Rattle.frames.specs.Frames.{line-from, byte-from, word-from, long-from, frame, judged}
+use Rattle.frames.proofs.Formed.{Formed, formed}
+use Rattle.frames.proofs.Rows.{judged-3, judged-4, judged-frame}
+use Rattle.frames.proofs.OfLine.{kind-is, length-is, next-is, capacity-is, hop-is}
 
 -- The rows of the table where a line's type is known.
 opening-type : (l : Line) → misplaced Opening l ≡ not (eqb (kind l) 0x01)
