@@ -8,3 +8,4 @@ pub mod Header
 pub mod AfterHeader
 pub mod Gate
 pub mod End
+pub mod Lines

@@ -5,6 +5,7 @@ use mathlib.Core.Bool.{Bool, true, false, cond}
 use mathlib.Core.Option.{Option, none, some}
 use lib.ListN.{length}
 use Rattle.frames.specs.declared.Place.{Place}
+use Rattle.frames.specs.declared.Place.the-variants.{Closed}
 use Rattle.frames.specs.declared.LineRead.{LineRead}
 use Rattle.frames.specs.declared.LineRead.the-variants.{Refused}
 use Rattle.frames.specs.Text.{Line}
@@ -68,3 +69,8 @@ module _ (at : ℕ) (p : Place) (line : ℕ) (l : Line) where
               pub judged-frame : no-gates p l ≡ false → judged at p line l ≡ frame l (at + length (l .digits) + 1)
               unfolding rows told
               judged-frame eight = rw (judged-is at p line l) (simp (two, three, four, five, six, seven, eight))
+
+-- After the end frame no line is in its place.
+pub closed-3 : (at line : ℕ) (l : Line) → malformed Closed l ≡ false → judged at Closed line l ≡ Refused 3 line
+unfolding misplaced
+closed-3 at line l two = judged-3 at Closed line l two refl

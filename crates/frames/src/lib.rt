@@ -251,3 +251,37 @@ fn read_end(text: &[u8], at: usize, end: usize, gates: usize, line: usize) -> Li
     }
     LineRead::End { next: end + 1 }
 }
+
+// A well-formed line after a header and so many gates: a gate or the end.
+fn read_after_header(text: &[u8], at: usize, end: usize, gates: usize, line: usize) -> LineRead
+    requires { ⌜ malformed Opening (line-from (now text) at end) ≡ false ⌝ }
+    ensures { λ r. ⌜ r ≡ judged at (AfterGates gates) line (line-from (now (text .entry)) at end) ⌝ }
+{
+    let kind = byte_at(text, at);
+    if kind == GATE_TYPE {
+        return read_gate(text, at, end, gates, line);
+    }
+    if kind == END_TYPE {
+        return read_end(text, at, end, gates, line);
+    }
+    LineRead::Refused { number: 3, line }
+}
+
+// The line that begins at `at`, by what stood before it: its frame and where the next line begins, or the lowest number
+// of the table that it gives, with its line. A place past the text's end counts as its end.
+pub fn read_line(text: &[u8], at: usize, place: Place, line: usize) -> LineRead
+    ensures { λ r. ⌜ r ≡ line-read (now (text .entry)) at place line ⌝ }
+{
+    if text.len() <= at {
+        return LineRead::Nothing;
+    }
+    let end = line_end(text, at);
+    if !well_formed(text, at, end) {
+        return LineRead::Refused { number: 2, line };
+    }
+    match place {
+        Place::Opening => read_header(text, at, end, line),
+        Place::AfterGates(gates) => read_after_header(text, at, end, gates, line),
+        Place::Closed => LineRead::Refused { number: 3, line },
+    }
+}
