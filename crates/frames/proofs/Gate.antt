@@ -11,6 +11,7 @@ use lib.Dec.{ltb, leb, eqb}
 use borrow.Author.Tests.{lt-ltb, le-ltb, le-leb, lt-leb, eq-eqb, ne-eqb}
 use Rattle.model.specs.Ceilings.{most-gates, most-fanins}
 use Rattle.units.specs.Units.{cells, ticks}
+use Rattle.frames.specs.declared.Place.{Place}
 use Rattle.frames.specs.declared.Place.the-variants.{Opening, AfterGates}
 use Rattle.frames.specs.declared.LineRead.the-variants.{Gate, Refused}
 use Rattle.frames.specs.Text.{Line, bytes, words}
@@ -27,13 +28,14 @@ pub same-gate : {w w′ d d′ k k′ : ℕ} (next : ℕ) → w ≡ w′ → d �
 same-gate next p q r = λ i. Gate (cells (p i)) (ticks (q i)) (record { 0 = r i }) next
 
 -- The rows where the type is 02.
+pub gate-length : (p : Place) (l : Line) → kind l ≡ 0x02
+    → wrong-length p l ≡ (ltb most-fanins (gate-count l) || not (eqb (frame-length l) (6 + 2 * gate-count l)))
+unfolding wrong-length
+gate-length p l is = rw is
+
 module _ (g : ℕ) (l : Line) (is : kind l ≡ 0x02) where
   gate-placed : misplaced (AfterGates g) l ≡ false
   gate-placed = rw (gates-type g l, is)
-
-  gate-length : wrong-length (AfterGates g) l ≡ (ltb most-fanins (gate-count l) || not (eqb (frame-length l) (6 + 2 * gate-count l)))
-  unfolding wrong-length
-  gate-length = rw is
 
   gate-number : one-too-many (AfterGates g) l ≡ leb most-gates g
   unfolding one-too-many
@@ -71,7 +73,7 @@ module _ (text : List ℕ) (at end gates line : ℕ) (formed-line : malformed Op
     short : end - at < 12 → wrong-length (AfterGates gates) (line-from text at end) ≡ true
     short h =
         let l = line-from text at end in
-        gate-length gates l typed
+        gate-length (AfterGates gates) l typed
         ∙ ap (λ t. ltb most-fanins (gate-count l) || not t) (ne-eqb (frame-length l) (6 + 2 * gate-count l) (λ e. omega (arith, length-is form, form)))
         ∙ or-true (ltb most-fanins (gate-count l))
 
@@ -90,7 +92,7 @@ module _ (text : List ℕ) (at end gates line : ℕ) (formed-line : malformed Op
         let l = line-from text at end in
         told-4
         (wrong
-        (λ long. gate-length gates l typed
+        (λ long. gate-length (AfterGates gates) l typed
         ∙ ap (λ t. t || not (eqb (frame-length l) (6 + 2 * gate-count l))) (lt-ltb most-fanins (gate-count l) (omega (arith, count-is form long)))))
 
     pub gate-4-length : (end - at ≡ 12 + 4 * byte-from text (at + 10) → ⊥)
@@ -99,7 +101,7 @@ module _ (text : List ℕ) (at end gates line : ℕ) (formed-line : malformed Op
         let l = line-from text at end in
         told-4
         (wrong
-        (λ long. gate-length gates l typed
+        (λ long. gate-length (AfterGates gates) l typed
         ∙ ap (λ t. ltb most-fanins (gate-count l) || not t)
         (ne-eqb (frame-length l) (6 + 2 * gate-count l) (λ e. h (omega (arith, length-is form, count-is form long, form))))
         ∙ or-true (ltb most-fanins (gate-count l))))
@@ -111,7 +113,7 @@ module _ (text : List ℕ) (at end gates line : ℕ) (formed-line : malformed Op
       four : wrong-length (AfterGates gates) (line-from text at end) ≡ false
       four =
           let l = line-from text at end in
-          gate-length gates l typed
+          gate-length (AfterGates gates) l typed
           ∙ ap₂ (λ x y. x || not y) (le-ltb most-fanins (gate-count l) (omega (arith, counted)))
           (eq-eqb (frame-length l) (6 + 2 * gate-count l) (omega (arith, length-is form, counted)))
 

@@ -9,3 +9,5 @@ pub mod AfterHeader
 pub mod Gate
 pub mod End
 pub mod Lines
+pub mod Unique
+pub mod FanIns

@@ -1,8 +1,9 @@
 -- The rule of the table, row by row: a line answers with the first row that is given, and is a frame where none is.
 use Prim.Native.Nat.{ℕ, _+_}
-use mathlib.Core.Path.{_≡_, refl}
+use mathlib.Core.Path.{_≡_, refl, sym, _∙_}
 use mathlib.Core.Bool.{Bool, true, false, cond}
 use mathlib.Core.Option.{Option, none, some}
+use native.Mathlib.Omega.{arith}
 use lib.ListN.{length}
 use Rattle.frames.specs.declared.Place.{Place}
 use Rattle.frames.specs.declared.Place.the-variants.{Closed}
@@ -74,3 +75,36 @@ module _ (at : ℕ) (p : Place) (line : ℕ) (l : Line) where
 pub closed-3 : (at line : ℕ) (l : Line) → malformed Closed l ≡ false → judged at Closed line l ≡ Refused 3 line
 unfolding misplaced
 closed-3 at line l two = judged-3 at Closed line l two refl
+
+-- A line without fault is given by no row.
+pub record Faultless (p : Place) (l : Line) : Type 0 where
+  pub formed : malformed p l ≡ false
+  pub placed : misplaced p l ≡ false
+  pub right-length : wrong-length p l ≡ false
+  pub within : one-too-many p l ≡ false
+  pub ordered : unordered p l ≡ false
+  pub counted : miscounted p l ≡ false
+  pub some-gates : no-gates p l ≡ false
+
+not-given : (b : Bool) (k : ℕ) (o : Option ℕ) → cond b (some k) o ≡ none → (b ≡ false) × (o ≡ none)
+not-given true k o e = let z : _≡_ {A = ℕ} 0 1 = cc in absurd (omega arith)
+not-given false k o e = (refl, e)
+
+pub faultless : (p : Place) (l : Line) → fault p l ≡ none → Faultless p l
+unfolding rows
+faultless p l e =
+    let two = not-given _ _ _ (sym (rows-are p l) ∙ e) in
+    let three = not-given _ _ _ (two .1) in
+    let four = not-given _ _ _ (three .1) in
+    let five = not-given _ _ _ (four .1) in
+    let six = not-given _ _ _ (five .1) in
+    let seven = not-given _ _ _ (six .1) in
+    record {
+      formed = two .0;
+      placed = three .0;
+      right-length = four .0;
+      within = five .0;
+      ordered = six .0;
+      counted = seven .0;
+      some-gates = not-given _ _ _ (seven .1) .0;
+    }
