@@ -2,3 +2,4 @@
 pub mod Text
 pub mod Table
 pub mod Fault
+pub mod Frames
