@@ -1,1 +1,2 @@
 // A network's text read into rows, and rows written as text.
+pub mod writing;
