@@ -3,6 +3,7 @@ ghost use mathlib.Core.Path.{_≡_};
 ghost use mathlib.Core.List.{[], _∷_};
 ghost use Prim.Native.Nat.{_+_, _<_};
 ghost use lib.Dec.{leb};
+ghost use Rattle.model.specs.Basics.{gather};
 ghost use Rattle.network.specs.Spelling.{figure, word-bytes, long-bytes};
 ghost use Rattle.network.specs.Writing.{Put};
 
@@ -39,4 +40,44 @@ pub fn put_byte(out: &mut [u8], at: usize, b: u8) -> usize
     } else {
         at
     }
+}
+
+// The four digits of a word, as put_byte puts them.
+pub fn put_word(out: &mut [u8], at: usize, w: u16) -> usize
+    ensures { λ r. ⌜ Put (word-bytes w) at (now (out .entry)) r (now (out .exit)) ⌝ }
+{
+    if has_room(out.len(), at, 4) {
+        let next = put_byte(out, at, (w / 256) as u8);
+        put_byte(out, next, (w % 256) as u8)
+    } else {
+        at
+    }
+}
+
+// The eight digits of a long word.
+pub fn put_long(out: &mut [u8], at: usize, w: u32) -> usize
+    ensures { λ r. ⌜ Put (long-bytes w) at (now (out .entry)) r (now (out .exit)) ⌝ }
+{
+    if has_room(out.len(), at, 8) {
+        let next = put_word(out, at, (w / 65_536) as u16);
+        put_word(out, next, (w % 65_536) as u16)
+    } else {
+        at
+    }
+}
+
+// The digits of some words, one word after the other: all of them or none.
+pub fn put_words(out: &mut [u8], at: usize, words: &[u16]) -> usize
+    ensures { λ r. ⌜ Put (gather word-bytes (now (words .entry))) at (now (out .entry)) r (now (out .exit)) ⌝ }
+{
+    if !has_room(out.len(), at, 4 * words.len()) {
+        return at;
+    }
+    let mut next = at;
+    let mut i = 0;
+    while i < words.len() {
+        next = put_word(out, next, words[i]);
+        i += 1;
+    }
+    next
 }
