@@ -44,7 +44,7 @@ put-stands bs at out next row h p =
     let e : leb (at + length (digits bs)) (length out) ≡ true = le-leb _ _ h in
     record { past = rw e at (p .answer); row-is = rw e at (p .kept) }
 
-sets-append : (l : List ℕ) (i : ℕ) (xs ys : List ℕ) → sets l i (xs ++ ys) ≡ sets (sets l i xs) (i + length xs) ys
+pub sets-append : (l : List ℕ) (i : ℕ) (xs ys : List ℕ) → sets l i (xs ++ ys) ≡ sets (sets l i xs) (i + length xs) ys
 sets-append l i [] ys = rw add-zero
 sets-append l i (x ∷ xs) ys = rw (sets-append (set l i x) (suc i) xs ys, add-suc, suc-add)
 

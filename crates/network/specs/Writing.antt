@@ -3,11 +3,14 @@ use Prim.Native.Nat.{ℕ, _+_, _≤_, _<_}
 use mathlib.Core.Path.{_≡_}
 use mathlib.Core.Bool.{Bool, false, cond}
 use mathlib.Core.List.{List, [], _∷_, _++_}
-use lib.ListN.{length, getD, drop}
+use lib.ListN.{length, getD, set, drop}
 use lib.Seq.{sets}
 use lib.Dec.{leb, ltb}
 use Rattle.model.specs.Basics.{gather}
 use Rattle.model.specs.Ceilings.{most-gates, most-fanins}
+use Rattle.frames.specs.Text.{line-feed}
+use Rattle.network.specs.declared.writing.Written.{Written}
+use Rattle.network.specs.declared.writing.Written.the-variants.{Line, Refused}
 use Rattle.network.specs.Reading.{Reading, refused, network}
 use Rattle.network.specs.Rows.{Rows, too-short}
 use Rattle.network.specs.Spelling.{byte-digits, row-lines, rows-answer}
@@ -27,3 +30,20 @@ room bs at out = leb (at + length (digits bs)) (length out)
 pub record Put (bs : List ℕ) (at : ℕ) (out : List ℕ) (next : ℕ) (row : List ℕ) : Type 0 where
   pub answer : next ≡ cond (room bs at out) (at + length (digits bs)) at
   pub kept : row ≡ cond (room bs at out) (sets out at (digits bs)) out
+
+-- A line feed put past a line's digits, and the line's length.
+pub record Ended (at : ℕ) (out : List ℕ) (r : Written) (row : List ℕ) : Type 0 where
+  pub answer : r ≡ Line (at + 1)
+  pub kept : row ≡ set out at line-feed
+
+-- "A writer .. given less room than what it was asked for answers 10", told at line 0.
+unfoldable pub line-answer : List ℕ → List ℕ → Written
+line-answer line out = cond (ltb (length out) (length line)) (Refused 10 0) (Line (length line))
+
+-- The row afterwards: the line in front, the rest as it was; on a refusal all of it as it was.
+unfoldable pub line-row : List ℕ → List ℕ → List ℕ
+line-row line out = cond (ltb (length out) (length line)) out (line ++ drop (length line) out)
+
+pub record LineWritten (line : List ℕ) (out : List ℕ) (r : Written) (row : List ℕ) : Type 0 where
+  pub answer : r ≡ line-answer line out
+  pub kept : row ≡ line-row line out

@@ -1,11 +1,21 @@
-// Lines of hexadecimal written into a lent row.
+// A network's lines written into a lent row, in hexadecimal: bytes and words put as digits, and lines made of them.
 ghost use mathlib.Core.Path.{_≡_};
 ghost use mathlib.Core.List.{[], _∷_};
 ghost use Prim.Native.Nat.{_+_, _<_};
+ghost use lib.ListN.{length};
 ghost use lib.Dec.{leb};
 ghost use Rattle.model.specs.Basics.{gather};
-ghost use Rattle.network.specs.Spelling.{figure, word-bytes, long-bytes};
-ghost use Rattle.network.specs.Writing.{Put};
+ghost use Rattle.network.specs.Spelling.{figure, word-bytes, long-bytes, header-bytes, spell-line};
+ghost use Rattle.network.specs.Writing.{Put, Ended, LineWritten};
+
+// What writing a line answers: its length, line feed included, or a refusal's number and line.
+pub enum Written {
+    Line(usize),
+    Refused { number: u8, line: usize },
+}
+
+// "lent row too short"
+const SHORT: u8 = 10;
 
 // The digit that says d.
 fn figure(d: u8) -> u8
@@ -80,4 +90,28 @@ pub fn put_words(out: &mut [u8], at: usize, words: &[u16]) -> usize
         i += 1;
     }
     next
+}
+
+// The line feed, put past a line's digits.
+fn end_line(out: &mut [u8], at: usize) -> Written
+    requires { ⌜ at < length (now out) ⌝ }
+    ensures { λ r. ⌜ Ended at (now (out .entry)) r (now (out .exit)) ⌝ }
+{
+    out[at] = b'\n';
+    Written::Line(at + 1)
+}
+
+fn spell_header(capacity: u32, hop: u16, out: &mut [u8]) -> Written
+    ensures { λ r. ⌜ LineWritten (spell-line (header-bytes capacity hop)) (now (out .entry)) r (now (out .exit)) ⌝ }
+{
+    if out.len() < 15 {
+        return Written::Refused {
+            number: SHORT,
+            line: 0,
+        };
+    }
+    let at = put_byte(out, 0, 0x01);
+    let at = put_long(out, at, capacity);
+    let at = put_word(out, at, hop);
+    end_line(out, at)
 }
