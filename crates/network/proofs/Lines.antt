@@ -1,20 +1,24 @@
 -- Laws of written lines: a frame's digits that stand in a row, with a line feed past them, are its line.
-use Prim.Native.Nat.{ℕ, zero, suc, _+_, _*_, _≤_, _<_}
+use Prim.Native.Nat.{ℕ, zero, suc, _+_, _*_, _-_, _≤_, _<_, min}
 use mathlib.Core.Path.{_≡_, refl, sym, ap, _∙_}
 use mathlib.Core.Bool.{Bool, true, false, cond}
 use mathlib.Core.List.{List, [], _∷_, _++_}
 use native.Mathlib.Nat.{zero-add}
 use native.Mathlib.Omega.{arith}
-use lib.ListN.{length, getD, set, take, drop, length-append}
+use lib.ListN.{length, getD, set, take, drop, length-append, length-take, length-drop}
 use lib.Seq.{sets, sets-eq}
 use lib.Dec.{ltb}
 use borrow.Author.Tests.{lt-ltb, le-ltb}
+use Rattle.model.specs.Basics.{gather}
+use Rattle.model.specs.Ceilings.{most-fanins}
+use Rattle.model.specs.Network.{Gate}
 use Rattle.frames.specs.Text.{line-feed}
 use Rattle.network.specs.declared.writing.Written.{Written}
 use Rattle.network.specs.declared.writing.Written.the-variants.{Line, Refused}
-use Rattle.network.specs.Spelling.{spell-line}
-use Rattle.network.specs.Writing.{digits, Ended, line-answer, line-row, LineWritten}
-use Rattle.network.proofs.Puts.{Stands, stands-kept, sets-append}
+use Rattle.network.specs.Rows.{Rows, row-gate}
+use Rattle.network.specs.Spelling.{byte-digits, word-bytes, gate-bytes, spell-line}
+use Rattle.network.specs.Writing.{digits, Put, Ended, line-answer, line-row, LineWritten, Stored, gate-line}
+use Rattle.network.proofs.Puts.{Stands, put-stands, stands-then, stands-kept, sets-append, length-words}
 
 line-is : (bs : List ℕ) → spell-line bs ≡ digits bs ++ (line-feed ∷ [])
 unfolding spell-line digits
@@ -48,3 +52,52 @@ module _ (bs out : List ℕ) (mid : ℕ) (part : List ℕ) (fits : length (spell
       let e : ltb (length out) (length (spell-line bs)) ≡ false = le-ltb _ _ fits in
       let n : mid + 1 ≡ length (spell-line bs) = omega (arith, s .past, length-line bs) in
       record { answer = rw e (ended .answer ∙ ap Line n); kept = rw e (ended .kept ∙ in-front) }
+
+-- The bytes of a gate's frame, and its five parts put one after the other.
+module _ (w d count : ℕ) (fs : List ℕ) where
+  abbrev pub frame : List ℕ
+  frame = 0x02 ∷ word-bytes w ++ word-bytes d ++ (count ∷ []) ++ gather word-bytes fs
+
+  length-frame : length (digits frame) ≡ 12 + 4 * length fs
+  unfolding digits gather byte-digits word-bytes
+  length-frame = let rest : length (digits (gather word-bytes fs)) ≡ 4 * length fs = length-words fs in omega arith
+
+  pub gate-stands : {out : List ℕ} {n₁ n₂ n₃ n₄ n₅ : ℕ} {o₁ o₂ o₃ o₄ o₅ : List ℕ} → 13 + 4 * length fs ≤ length out
+      → Put (0x02 ∷ []) 0 out n₁ o₁ → Put (word-bytes w) n₁ o₁ n₂ o₂ → Put (word-bytes d) n₂ o₂ n₃ o₃ → Put (count ∷ []) n₃ o₃ n₄ o₄
+      → Put (gather word-bytes fs) n₄ o₄ n₅ o₅ → Stands frame 0 out n₅ o₅
+  unfolding digits gather byte-digits word-bytes
+  gate-stands {out} fits p₁ p₂ p₃ p₄ p₅ =
+      let s₁ = put-stands (0x02 ∷ []) 0 out _ _ (omega arith) p₁ in
+      let s₂ = stands-then (0x02 ∷ []) (word-bytes w) 0 out _ _ _ _ (omega arith) s₁ p₂ in
+      let s₃ = stands-then (0x02 ∷ word-bytes w) (word-bytes d) 0 out _ _ _ _ (omega arith) s₂ p₃ in
+      let s₄ = stands-then (0x02 ∷ word-bytes w ++ word-bytes d) (count ∷ []) 0 out _ _ _ _ (omega arith) s₃ p₄ in
+      stands-then (0x02 ∷ word-bytes w ++ word-bytes d ++ (count ∷ [])) (gather word-bytes fs) 0 out _ _ _ _ (omega (arith, length-frame)) s₄ p₅
+
+-- The fan-ins of a stored gate, as the code takes them out of their row.
+module _ (v : ℕ) (rows : Rows) (there : Stored v rows) where
+  abbrev pub stored-fanins : List ℕ
+  stored-fanins = take (most-fanins * v + getD (rows .counts) v 0 - most-fanins * v) (drop (most-fanins * v) (rows .fanins))
+
+  fanins-are : row-gate rows v .fanins ≡ stored-fanins
+  unfolding row-gate
+  fanins-are =
+      let few : min (getD (rows .counts) v 0) most-fanins ≡ most-fanins * v + getD (rows .counts) v 0 - most-fanins * v = omega (arith, there .few) in
+      rw few
+
+  pub length-stored : length stored-fanins ≡ getD (rows .counts) v 0
+  length-stored = simp (length-take, length-drop) (omega (arith, there .few, there .fanins))
+
+  abbrev pub stored-frame : List ℕ
+  stored-frame = frame (getD (rows .weights) v 0) (getD (rows .delays) v 0) (getD (rows .counts) v 0) stored-fanins
+
+  pub gate-line-is : gate-line rows v ≡ spell-line stored-frame
+  unfolding gate-line gate-bytes row-gate
+  gate-line-is = rw fanins-are
+
+  pub length-stored-line : length (spell-line stored-frame) ≡ 13 + 4 * getD (rows .counts) v 0
+  length-stored-line =
+      omega
+      (arith, length-line stored-frame, length-frame (getD (rows .weights) v 0) (getD (rows .delays) v 0) (getD (rows .counts) v 0) stored-fanins, length-stored)
+
+  pub length-gate : length (gate-line rows v) ≡ 13 + 4 * getD (rows .counts) v 0
+  length-gate = rw gate-line-is length-stored-line

@@ -1,5 +1,5 @@
 -- What the writers of lines answer, and what they leave in the lent row.
-use Prim.Native.Nat.{ℕ, _+_, _≤_, _<_}
+use Prim.Native.Nat.{ℕ, _+_, _*_, _≤_, _<_}
 use mathlib.Core.Path.{_≡_}
 use mathlib.Core.Bool.{Bool, false, cond}
 use mathlib.Core.List.{List, [], _∷_, _++_}
@@ -12,8 +12,8 @@ use Rattle.frames.specs.Text.{line-feed}
 use Rattle.network.specs.declared.writing.Written.{Written}
 use Rattle.network.specs.declared.writing.Written.the-variants.{Line, Refused}
 use Rattle.network.specs.Reading.{Reading, refused, network}
-use Rattle.network.specs.Rows.{Rows, too-short}
-use Rattle.network.specs.Spelling.{byte-digits, row-lines, rows-answer}
+use Rattle.network.specs.Rows.{Rows, row-gate, too-short}
+use Rattle.network.specs.Spelling.{byte-digits, spell-line, gate-bytes, row-lines, rows-answer}
 
 -- the digits of some bytes, two a byte
 unfoldable pub digits : List ℕ → List ℕ
@@ -47,3 +47,20 @@ line-row line out = cond (ltb (length out) (length line)) out (line ++ drop (len
 pub record LineWritten (line : List ℕ) (out : List ℕ) (r : Written) (row : List ℕ) : Type 0 where
   pub answer : r ≡ line-answer line out
   pub kept : row ≡ line-row line out
+
+-- four rows as one
+abbrev pub rows-of : List ℕ → List ℕ → List ℕ → List ℕ → Rows
+rows-of weights delays counts fanins = record { weights = weights; delays = delays; counts = counts; fanins = fanins }
+
+-- a gate's places are within the rows, and its count within the ceiling
+pub record Stored (v : ℕ) (rows : Rows) : Type 0 where
+  pub weight : v < length (rows .weights)
+  pub delay : v < length (rows .delays)
+  pub count : v < length (rows .counts)
+  pub fanins : most-fanins * v + most-fanins ≤ length (rows .fanins)
+  pub few : getD (rows .counts) v 0 ≤ most-fanins
+
+-- the line of the gate that stands in the rows at v
+unfoldable pub gate-line : Rows → ℕ → List ℕ
+unfolding spell-line gate-bytes row-gate
+gate-line rows v = spell-line (gate-bytes (row-gate rows v) (getD (rows .counts) v 0))

@@ -1,12 +1,13 @@
 // A network's lines written into a lent row, in hexadecimal: bytes and words put as digits, and lines made of them.
+use units::FanInCount;
 ghost use mathlib.Core.Path.{_≡_};
 ghost use mathlib.Core.List.{[], _∷_};
 ghost use Prim.Native.Nat.{_+_, _<_};
 ghost use lib.ListN.{length};
 ghost use lib.Dec.{leb};
 ghost use Rattle.model.specs.Basics.{gather};
-ghost use Rattle.network.specs.Spelling.{figure, word-bytes, long-bytes, header-bytes, spell-line};
-ghost use Rattle.network.specs.Writing.{Put, Ended, LineWritten};
+ghost use Rattle.network.specs.Spelling.{figure, word-bytes, long-bytes, header-bytes, end-bytes, spell-line};
+ghost use Rattle.network.specs.Writing.{Put, Ended, LineWritten, rows-of, Stored, gate-line};
 
 // What writing a line answers: its length, line feed included, or a refusal's number and line.
 pub enum Written {
@@ -113,5 +114,50 @@ fn spell_header(capacity: u32, hop: u16, out: &mut [u8]) -> Written
     let at = put_byte(out, 0, 0x01);
     let at = put_long(out, at, capacity);
     let at = put_word(out, at, hop);
+    end_line(out, at)
+}
+
+fn spell_end(gates: u16, out: &mut [u8]) -> Written
+    ensures { λ r. ⌜ LineWritten (spell-line (end-bytes gates)) (now (out .entry)) r (now (out .exit)) ⌝ }
+{
+    if out.len() < 7 {
+        return Written::Refused {
+            number: SHORT,
+            line: 0,
+        };
+    }
+    let at = put_byte(out, 0, 0x0F);
+    let at = put_word(out, at, gates);
+    end_line(out, at)
+}
+
+fn spell_gate(
+    gate: usize,
+    weights: &[u16],
+    delays: &[u16],
+    counts: &[u8],
+    fanins: &[u16],
+    out: &mut [u8],
+) -> Written
+    requires { ⌜ Stored gate (rows-of (now weights) (now delays) (now counts) (now fanins)) ⌝ }
+    ensures { λ r. ⌜ LineWritten
+        (gate-line (rows-of (now (weights .entry)) (now (delays .entry)) (now (counts .entry)) (now (fanins .entry))) gate)
+        (now (out .entry)) r (now (out .exit)) ⌝ }
+{
+    let count = counts[gate];
+    let number = count as usize;
+    if out.len() < 13 + 4 * number {
+        return Written::Refused {
+            number: SHORT,
+            line: 0,
+        };
+    }
+    let first = FanInCount::MOST * gate;
+    let past = first + number;
+    let at = put_byte(out, 0, 0x02);
+    let at = put_word(out, at, weights[gate]);
+    let at = put_word(out, at, delays[gate]);
+    let at = put_byte(out, at, count);
+    let at = put_words(out, at, &fanins[first..past]);
     end_line(out, at)
 }
