@@ -64,3 +64,28 @@ pub record Stored (v : ℕ) (rows : Rows) : Type 0 where
 unfoldable pub gate-line : Rows → ℕ → List ℕ
 unfolding spell-line gate-bytes row-gate
 gate-line rows v = spell-line (gate-bytes (row-gate rows v) (getD (rows .counts) v 0))
+
+-- "a writer that writes the k-th line", counted from 0; "a line past the last has length 0"
+unfoldable pub line-at : ℕ → List (List ℕ) → List ℕ
+line-at index lines = getD lines index []
+
+-- rows in which so many gates stand, each with its fan-ins
+pub record Spellable (gates : ℕ) (rows : Rows) : Type 0 where
+  pub long : too-short gates rows ≡ false
+  pub most : gates ≤ most-gates
+  pub few : (v : ℕ) → v < gates → getD (rows .counts) v 0 ≤ most-fanins
+
+-- "A network handed over as rows answers as the text those rows spell": a refusal of that text is handed on.
+unfoldable pub told : Reading → Written → Written
+told (refused k at) w = Refused k at
+told (network n) w = w
+
+-- "On every refusal .. no lent row has changed."
+unfoldable pub left : Reading → List ℕ → List ℕ → List ℕ
+left (refused k at) out row = out
+left (network n) out row = row
+
+-- One line of the text that rows spell, written into a row.
+pub record RowsWritten (index capacity hop gates : ℕ) (rows : Rows) (out : List ℕ) (r : Written) (row : List ℕ) : Type 0 where
+  pub answer : r ≡ told (rows-answer capacity hop gates rows) (line-answer (line-at index (row-lines capacity hop gates rows)) out)
+  pub kept : row ≡ left (rows-answer capacity hop gates rows) out (line-row (line-at index (row-lines capacity hop gates rows)) out)

@@ -6,8 +6,8 @@ ghost use Prim.Native.Nat.{_+_, _<_};
 ghost use lib.ListN.{length};
 ghost use lib.Dec.{leb};
 ghost use Rattle.model.specs.Basics.{gather};
-ghost use Rattle.network.specs.Spelling.{figure, word-bytes, long-bytes, header-bytes, end-bytes, spell-line};
-ghost use Rattle.network.specs.Writing.{Put, Ended, LineWritten, rows-of, Stored, gate-line};
+ghost use Rattle.network.specs.Spelling.{figure, word-bytes, long-bytes, header-bytes, end-bytes, spell-line, row-lines};
+ghost use Rattle.network.specs.Writing.{Put, Ended, LineWritten, rows-of, Stored, gate-line, line-at, Spellable};
 
 // What writing a line answers: its length, line feed included, or a refusal's number and line.
 pub enum Written {
@@ -160,4 +160,36 @@ fn spell_gate(
     let at = put_byte(out, at, count);
     let at = put_words(out, at, &fanins[first..past]);
     end_line(out, at)
+}
+
+// The line of that index, of a network whose rows are known to spell one.
+fn spell_line(
+    index: usize,
+    capacity: u32,
+    hop: u16,
+    gates: usize,
+    weights: &[u16],
+    delays: &[u16],
+    counts: &[u8],
+    fanins: &[u16],
+    out: &mut [u8],
+) -> Written
+    requires { ⌜ Spellable gates (rows-of (now weights) (now delays) (now counts) (now fanins)) ⌝ }
+    ensures { λ r. ⌜ LineWritten
+        (line-at index
+        (row-lines capacity hop gates
+        (rows-of (now (weights .entry)) (now (delays .entry)) (now (counts .entry)) (now (fanins .entry)))))
+        (now (out .entry)) r (now (out .exit)) ⌝ }
+{
+    if index == 0 {
+        return spell_header(capacity, hop, out);
+    }
+    let gate = index - 1;
+    if gate < gates {
+        return spell_gate(gate, weights, delays, counts, fanins, out);
+    }
+    if gate == gates {
+        return spell_end(gates as u16, out);
+    }
+    Written::Line(0)
 }
