@@ -1,7 +1,7 @@
 -- Laws of written lines: a frame's digits that stand in a row, with a line feed past them, are its line.
 use Prim.Native.Nat.{ℕ, zero, suc, _+_, _*_, _-_, _≤_, _<_, min}
-use mathlib.Core.Path.{_≡_, refl, sym, ap, _∙_}
-use mathlib.Core.Bool.{Bool, true, false, cond, _||_}
+use mathlib.Core.Path.{_≡_, refl, ap, _∙_}
+use mathlib.Core.Bool.{Bool, true, false, _||_}
 use mathlib.Core.List.{List, [], _∷_, _++_, map, map-append}
 use native.Mathlib.Nat.{zero-add}
 use native.Mathlib.Decide.{ℕ-discrete}
@@ -12,13 +12,14 @@ use lib.Dec.{ltb}
 use borrow.Author.Tests.{lt-ltb, le-ltb, ltb-false}
 use Rattle.model.specs.Basics.{gather, upto}
 use Rattle.model.specs.Ceilings.{most-fanins}
-use Rattle.model.specs.Network.{Gate}
+use Rattle.model.specs.Network.{Network}
 use Rattle.frames.specs.Text.{line-feed}
 use Rattle.network.specs.declared.writing.Written.{Written}
 use Rattle.network.specs.declared.writing.Written.the-variants.{Line, Refused}
+use Rattle.network.specs.Reading.{refused, network}
 use Rattle.network.specs.Rows.{Rows, row-gate, too-short}
-use Rattle.network.specs.Spelling.{byte-digits, word-bytes, header-bytes, gate-bytes, end-bytes, spell-line, row-lines}
-use Rattle.network.specs.Writing.{digits, Put, Ended, line-answer, line-row, LineWritten, Stored, gate-line, line-at, Spellable}
+use Rattle.network.specs.Spelling.{byte-digits, word-bytes, header-bytes, gate-bytes, end-bytes, spell-line, row-lines, rows-answer}
+use Rattle.network.specs.Writing.{digits, Put, Ended, line-answer, line-row, LineWritten, Stored, gate-line, line-at, Spellable, answer-unless, row-unless, RowsWritten}
 use Rattle.network.proofs.Puts.{Stands, put-stands, stands-then, stands-kept, sets-append, length-words}
 
 line-is : (bs : List ℕ) → spell-line bs ≡ digits bs ++ (line-feed ∷ [])
@@ -197,3 +198,14 @@ stored {gates} {rows} s v h =
       fanins = omega (arith, ltb-false (length (rows .fanins)) (most-fanins * gates) (three .1));
       few = s .few v h;
     }
+
+-- Once the rows are checked: their refusal handed on, or the line written.
+module _ (index capacity hop gates : ℕ) (rows : Rows) (out : List ℕ) where
+  pub rows-refused : {k at : ℕ} → rows-answer capacity hop gates rows ≡ refused k at → RowsWritten index capacity hop gates rows out (Refused k at) out
+  unfolding answer-unless row-unless
+  rows-refused e = record { answer = rw e; kept = rw e }
+
+  pub rows-written : {n : Network} {r : Written} {row : List ℕ} → rows-answer capacity hop gates rows ≡ network n
+      → LineWritten (line-at index (row-lines capacity hop gates rows)) out r row → RowsWritten index capacity hop gates rows out r row
+  unfolding answer-unless row-unless
+  rows-written e w = record { answer = rw e (w .answer); kept = rw e (w .kept) }

@@ -2,7 +2,7 @@
 use Prim.Native.Nat.{ℕ, _+_, _*_, _≤_, _<_}
 use mathlib.Core.Path.{_≡_}
 use mathlib.Core.Bool.{Bool, false, cond}
-use mathlib.Core.List.{List, [], _∷_, _++_}
+use mathlib.Core.List.{List, [], _++_}
 use lib.ListN.{length, getD, set, drop}
 use lib.Seq.{sets}
 use lib.Dec.{leb, ltb}
@@ -76,16 +76,16 @@ pub record Spellable (gates : ℕ) (rows : Rows) : Type 0 where
   pub few : (v : ℕ) → v < gates → getD (rows .counts) v 0 ≤ most-fanins
 
 -- "A network handed over as rows answers as the text those rows spell": a refusal of that text is handed on.
-unfoldable pub told : Reading → Written → Written
-told (refused k at) w = Refused k at
-told (network n) w = w
+unfoldable pub answer-unless : Reading → Written → Written
+answer-unless (refused k at) w = Refused k at
+answer-unless (network n) w = w
 
 -- "On every refusal .. no lent row has changed."
-unfoldable pub left : Reading → List ℕ → List ℕ → List ℕ
-left (refused k at) out row = out
-left (network n) out row = row
+unfoldable pub row-unless : Reading → List ℕ → List ℕ → List ℕ
+row-unless (refused k at) out row = out
+row-unless (network n) out row = row
 
 -- One line of the text that rows spell, written into a row.
 pub record RowsWritten (index capacity hop gates : ℕ) (rows : Rows) (out : List ℕ) (r : Written) (row : List ℕ) : Type 0 where
-  pub answer : r ≡ told (rows-answer capacity hop gates rows) (line-answer (line-at index (row-lines capacity hop gates rows)) out)
-  pub kept : row ≡ left (rows-answer capacity hop gates rows) out (line-row (line-at index (row-lines capacity hop gates rows)) out)
+  pub answer : r ≡ answer-unless (rows-answer capacity hop gates rows) (line-answer (line-at index (row-lines capacity hop gates rows)) out)
+  pub kept : row ≡ row-unless (rows-answer capacity hop gates rows) out (line-row (line-at index (row-lines capacity hop gates rows)) out)

@@ -1,4 +1,6 @@
-// A network's lines written into a lent row, in hexadecimal: bytes and words put as digits, and lines made of them.
+// Lines of hexadecimal written into a lent row. The puts write bytes and words as digits, from a place on: all of what they
+// were handed or, without room for it, nothing. On them stand the lines of a network that is handed over as rows: the
+// header, a line a gate, the end. A row too short for a line answers 10 and is left as it was.
 use units::FanInCount;
 ghost use mathlib.Core.Path.{_≡_};
 ghost use mathlib.Core.List.{[], _∷_};
@@ -102,6 +104,7 @@ fn end_line(out: &mut [u8], at: usize) -> Written
     Written::Line(at + 1)
 }
 
+// "01 header: M (4), D (2)": the digits of seven bytes, and the line feed.
 fn spell_header(capacity: u32, hop: u16, out: &mut [u8]) -> Written
     ensures { λ r. ⌜ LineWritten (spell-line (header-bytes capacity hop)) (now (out .entry)) r (now (out .exit)) ⌝ }
 {
@@ -117,6 +120,7 @@ fn spell_header(capacity: u32, hop: u16, out: &mut [u8]) -> Written
     end_line(out, at)
 }
 
+// "0F end: number of gates (2)"
 fn spell_end(gates: u16, out: &mut [u8]) -> Written
     ensures { λ r. ⌜ LineWritten (spell-line (end-bytes gates)) (now (out .entry)) r (now (out .exit)) ⌝ }
 {
@@ -131,6 +135,7 @@ fn spell_end(gates: u16, out: &mut [u8]) -> Written
     end_line(out, at)
 }
 
+// "02 gate: weight (2), delay (2), fan-in count (1), each fan-in (2)"
 fn spell_gate(
     gate: usize,
     weights: &[u16],
@@ -162,7 +167,7 @@ fn spell_gate(
     end_line(out, at)
 }
 
-// The line of that index, of a network whose rows are known to spell one.
+// The line of that index, counted from 0, of rows that are known to spell a network; past the last line nothing.
 fn spell_line(
     index: usize,
     capacity: u32,

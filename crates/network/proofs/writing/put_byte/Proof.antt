@@ -1,20 +1,16 @@
 -- `network::writing::put_byte` meets its contract: with room, two stores are the two digits; without it, nothing changed.
-use Prim.Native.Nat.{ℕ, suc, _+_, _≤_}
-use mathlib.Core.Path.{_≡_, refl, sym, ap, _∙_}
-use mathlib.Core.List.{List, [], _∷_}
+use Prim.Native.Nat.{_+_, _≤_}
+use mathlib.Core.Path.{refl}
+use mathlib.Core.List.{[], _∷_}
 use native.Mathlib.Numerals.{add-one}
 use native.Mathlib.Omega.{arith}
 use borrow.Author.Needs.{needs}
 use lib.ListN.{length, length-set}
 use Rattle.network.specs.Spelling.{byte-digits}
-use Rattle.network.specs.Writing.{digits, Put}
+use Rattle.network.specs.Writing.{digits}
 use Rattle.network.proofs.Puts.{has-room, no-room, put-none, put-all}
 use Rattle.network.proofs.writing.put_byte.Statement.{statement}
 use Rattle.network.proofs.writing.put_byte.Tie as tie
-use Rattle.network.proofs.writing.put_byte.Reads as reads
-use Rattle.network.proofs.writing.put_byte.Lts as lts
-use Rattle.network.proofs.writing.figure.Reads as figure-reads
-use Rattle.network.proofs.writing.has_room.Reads as has-room-reads
 
 fits : (c : tie.Then1) → c .before .before .before .args .at + 2 ≤ length (c .before .before .before .args .out .now)
 fits c = has-room _ 2 _ (c .before .has-room .ensures) (c .if1 .taken)
@@ -48,7 +44,7 @@ unfolding digits byte-digits
 returns c =
     let a = c .before .before .before .before .before .args in
     put-all (a .b ∷ []) (a .at) (a .out .now) _ _ (fits (c .before .before))
-    (record { past = refl; row-is = rw (add-one, c .before .figure .ensures, c .figure2 .ensures) })
+    (record { past = refl; row-is = cc (add-one (a .at), c .before .figure .ensures, c .figure2 .ensures) })
 
 returns-2 : tie.Need-returns-2
 unfolding digits

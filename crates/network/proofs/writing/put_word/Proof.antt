@@ -1,5 +1,5 @@
 -- `network::writing::put_word` meets its contract: two bytes put one after the other, the higher one first.
-use Prim.Native.Nat.{_+_, _/_, _%_}
+use Prim.Native.Nat.{_/_, _%_}
 use mathlib.Core.Path.{_≡_}
 use mathlib.Core.List.{[], _∷_}
 use native.Mathlib.Omega.{arith}
@@ -9,10 +9,6 @@ use Rattle.network.specs.Writing.{digits}
 use Rattle.network.proofs.Puts.{has-room, no-room, put-none, puts}
 use Rattle.network.proofs.writing.put_word.Statement.{statement}
 use Rattle.network.proofs.writing.put_word.Tie as tie
-use Rattle.network.proofs.writing.put_word.Reads as reads
-use Rattle.network.proofs.writing.put_word.Lts as lts
-use Rattle.network.proofs.writing.has_room.Reads as has-room-reads
-use Rattle.network.proofs.writing.put_byte.Reads as put-byte-reads
 
 has-room-requires : tie.Need-has-room-requires
 has-room-requires c κs = search needs

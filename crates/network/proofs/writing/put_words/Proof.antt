@@ -1,23 +1,17 @@
 -- `network::writing::put_words` meets its contract. The loop's invariant: the first i words stand in the row, and next is
 -- the place past them.
 use Prim.Native.Nat.{_+_, _*_, _-_, _≤_}
-use mathlib.Core.Path.{_≡_, refl, ap, _∙_}
-use mathlib.Core.List.{List}
+use mathlib.Core.Path.{_≡_}
 use native.Mathlib.Omega.{arith}
 use borrow.Author.Needs.{needs}
 use borrow.Author.Tests.{not-true, not-false}
 use lib.ListN.{length, take}
-use lib.Seq.{length-sets, take-all}
+use lib.Seq.{take-all}
 use Rattle.model.specs.Basics.{gather}
 use Rattle.network.specs.Spelling.{word-bytes}
-use Rattle.network.specs.Writing.{digits}
 use Rattle.network.proofs.Puts.{Stands, has-room, no-room, put-none, put-all, stands-none, stands-kept, length-words, words-more}
 use Rattle.network.proofs.writing.put_words.Statement.{statement}
 use Rattle.network.proofs.writing.put_words.Tie as tie
-use Rattle.network.proofs.writing.put_words.Reads as reads
-use Rattle.network.proofs.writing.put_words.Lts as lts
-use Rattle.network.proofs.writing.has_room.Reads as has-room-reads
-use Rattle.network.proofs.writing.put_word.Reads as put-word-reads
 
 abbrev Inv-loop : tie.InvT-loop
 Inv-loop out₀ at words next₀ i₀ out next i = (i ≤ length words) × Stands (gather word-bytes (take i words)) at out₀ next out

@@ -24,21 +24,21 @@ tested c = c .before .before .before .before .before .before
 -- 7 places are what the line needs.
 fits : (c : tie.Else1) → length (spell-line (bytes c)) ≤ length (row c)
 unfolding spell-line end-bytes
-fits c = c .if1 .left
+fits c = omega (arith, c .if1 .left)
 
 stands : (c : tie.After-put-word) → Stands (bytes (tested c)) 0 (row (tested c)) (c .put-word .result) (c .put-word .last .0)
 unfolding digits byte-digits word-bytes end-bytes
 stands c =
     let byte = c .before .before .before .before in
     let out = row (tested c) in
-    let room : 7 ≤ length out = tested c .if1 .left in
+    let room : 7 ≤ length out = omega (arith, tested c .if1 .left) in
     stands-then (0x0F ∷ []) (word-bytes (tested c .before .before .args .gates)) 0 out _ _ _ _ (omega arith)
     (put-stands (0x0F ∷ []) 0 out _ _ (omega arith) (byte .put-byte .ensures))
     (c .put-word .ensures)
 
 returns : tie.Need-returns
 unfolding spell-line end-bytes
-returns c = let a = c .before .before .args in line-short (spell-line (end-bytes (a .gates))) (a .out .now) (c .if1 .taken)
+returns c = let a = c .before .before .args in line-short (spell-line (end-bytes (a .gates))) (a .out .now) (omega (arith, c .if1 .taken))
 
 put-byte-requires : tie.Need-put-byte-requires
 put-byte-requires c κs = search needs

@@ -5,18 +5,12 @@ use native.Mathlib.Omega.{arith}
 use lib.ListN.{length}
 use Rattle.network.specs.Rows.{Rows}
 use Rattle.network.specs.Spelling.{spell-line}
-use Rattle.network.specs.Writing.{rows-of, Stored, gate-line}
+use Rattle.network.specs.Writing.{rows-of, gate-line}
 use Rattle.network.proofs.Puts.{Stands}
 use Rattle.network.proofs.Lines.{line-short, feed-fits, line-ends, gate-stands, stored-frame, length-stored, length-stored-line, gate-line-is, length-gate}
 use borrow.Author.Needs.{needs}
 use Rattle.network.proofs.writing.spell_gate.Statement.{statement}
 use Rattle.network.proofs.writing.spell_gate.Tie as tie
-use Rattle.network.proofs.writing.spell_gate.Reads as reads
-use Rattle.network.proofs.writing.spell_gate.Lts as lts
-use Rattle.network.proofs.writing.end_line.Reads as end-line-reads
-use Rattle.network.proofs.writing.put_byte.Reads as put-byte-reads
-use Rattle.network.proofs.writing.put_word.Reads as put-word-reads
-use Rattle.network.proofs.writing.put_words.Reads as put-words-reads
 
 abbrev rows : tie.Start → Rows
 rows s = rows-of (s .args .weights .now) (s .args .delays .now) (s .args .counts .now) (s .args .fanins .now)

@@ -11,12 +11,6 @@ use Rattle.network.proofs.Puts.{Stands, put-stands, stands-then}
 use Rattle.network.proofs.Lines.{line-short, feed-fits, line-ends}
 use Rattle.network.proofs.writing.spell_header.Statement.{statement}
 use Rattle.network.proofs.writing.spell_header.Tie as tie
-use Rattle.network.proofs.writing.spell_header.Reads as reads
-use Rattle.network.proofs.writing.spell_header.Lts as lts
-use Rattle.network.proofs.writing.end_line.Reads as end-line-reads
-use Rattle.network.proofs.writing.put_byte.Reads as put-byte-reads
-use Rattle.network.proofs.writing.put_long.Reads as put-long-reads
-use Rattle.network.proofs.writing.put_word.Reads as put-word-reads
 
 abbrev row : tie.Else1 → List ℕ
 row c = c .before .before .args .out .now
@@ -30,7 +24,7 @@ tested c = c .before .before .before .before .before .before .before .before .be
 -- 15 places are what the line needs.
 fits : (c : tie.Else1) → length (spell-line (bytes c)) ≤ length (row c)
 unfolding spell-line header-bytes
-fits c = c .if1 .left
+fits c = omega (arith, c .if1 .left)
 
 stands : (c : tie.After-put-word) → Stands (bytes (tested c)) 0 (row (tested c)) (c .put-word .result) (c .put-word .last .0)
 unfolding digits byte-digits long-bytes word-bytes header-bytes
@@ -39,7 +33,7 @@ stands c =
     let byte = long .before .before .before .before in
     let a = tested c .before .before .args in
     let out = row (tested c) in
-    let room : 15 ≤ length out = tested c .if1 .left in
+    let room : 15 ≤ length out = omega (arith, tested c .if1 .left) in
     stands-then (0x01 ∷ long-bytes (a .capacity)) (word-bytes (a .hop)) 0 out _ _ _ _ (omega arith)
     (stands-then (0x01 ∷ []) (long-bytes (a .capacity)) 0 out _ _ _ _ (omega arith)
     (put-stands (0x01 ∷ []) 0 out _ _ (omega arith) (byte .put-byte .ensures))
@@ -48,7 +42,7 @@ stands c =
 
 returns : tie.Need-returns
 unfolding spell-line header-bytes
-returns c = let a = c .before .before .args in line-short (spell-line (header-bytes (a .capacity) (a .hop))) (a .out .now) (c .if1 .taken)
+returns c = let a = c .before .before .args in line-short (spell-line (header-bytes (a .capacity) (a .hop))) (a .out .now) (omega (arith, c .if1 .taken))
 
 put-byte-requires : tie.Need-put-byte-requires
 put-byte-requires c κs = search needs

@@ -8,11 +8,6 @@ use Rattle.network.proofs.Lines.{header-at, gate-at, end-at, none-at, l
 use borrow.Author.Needs.{needs}
 use Rattle.network.proofs.writing.spell_line.Statement.{statement}
 use Rattle.network.proofs.writing.spell_line.Tie as tie
-use Rattle.network.proofs.writing.spell_line.Reads as reads
-use Rattle.network.proofs.writing.spell_line.Lts as lts
-use Rattle.network.proofs.writing.spell_end.Reads as spell-end-reads
-use Rattle.network.proofs.writing.spell_gate.Reads as spell-gate-reads
-use Rattle.network.proofs.writing.spell_header.Reads as spell-header-reads
 
 abbrev rows : tie.Start → Rows
 rows s = rows-of (s .args .weights .now) (s .args .delays .now) (s .args .counts .now) (s .args .fanins .now)
