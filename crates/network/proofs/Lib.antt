@@ -1,4 +1,5 @@
--- Spelling and reading undo each other; what an accepted text is; what the table says of a text; texts with their answers.
+-- Spelling and reading undo each other; what an accepted text is; what the table says of a text; texts with their answers;
+-- what the code writes.
 pub mod Tests
 pub mod Digits
 pub mod Lines
@@ -16,3 +17,7 @@ pub mod Table
 pub mod Room
 pub mod GateLines
 mod Cases
+pub mod Puts
+pub mod WrittenLines
+pub mod Unique
+mod LineExamples
