@@ -5,8 +5,9 @@ pub mod Frames
 pub mod Faultless
 pub mod Accepted
 pub mod AcceptedNetwork
-pub mod Rows
+pub mod RowLaws
 pub mod Spelled
 pub mod RowsCheck
+pub mod Faults
 pub mod RoundTrip
 pub mod Examples

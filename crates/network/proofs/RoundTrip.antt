@@ -17,7 +17,7 @@ use Rattle.network.specs.Rows.{Rows, too-short, in-room, answer, fill, f
 use Rattle.network.specs.Spelling.{spell-line, header-bytes, gate-bytes, end-bytes, join, spell, spell-network, rows-answer}
 use Rattle.network.proofs.Tests.{never, passed, picked}
 use Rattle.network.proofs.Accepted.{AllFit, network-text, accepted-text, unless-network, told-light}
-use Rattle.network.proofs.Rows.{Room, room, AllFew, filled-gates, filled-network, fill-rows-network}
+use Rattle.network.proofs.RowLaws.{Room, room, AllFew, filled-gates, filled-network, fill-rows-network}
 use Rattle.network.proofs.Spelled.{gate-fault}
 use Rattle.network.proofs.RowsCheck.{InRange, text-length, gates-check, heavy-check, end-check, text-check, spell-framed, read-rows}
 

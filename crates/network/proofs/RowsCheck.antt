@@ -24,7 +24,7 @@ use Rattle.network.proofs.Tests.{passed}
 use Rattle.network.proofs.Digits.{Below, length-digits}
 use Rattle.network.proofs.Lines.{lines-spelled}
 use Rattle.network.proofs.Accepted.{join-framed}
-use Rattle.network.proofs.Rows.{count-up, upto-counts-up, Room, room, less-room, row-gate-length}
+use Rattle.network.proofs.RowLaws.{count-up, upto-counts-up, Room, room, less-room, row-gate-length}
 use Rattle.network.proofs.Spelled.{spelled, header-faultless, header-capacity-of, header-hop-of, header-length, gate-fault, gate-length, gate-kind, gate-of-spelled, gate-faults, end-length, end-kind, end-faults}
 
 -- rows whose entries are numbers that fit: weights, delays and fan-ins two bytes, counts one

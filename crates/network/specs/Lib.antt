@@ -3,3 +3,5 @@ pub mod Reading
 pub mod Rows
 pub mod Spelling
 pub mod Shown
+pub mod RowsCheck
+pub mod Checked

@@ -16,3 +16,5 @@ pub enum Read {
         line: usize,
     },
 }
+
+pub mod rows;
