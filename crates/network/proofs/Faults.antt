@@ -7,7 +7,7 @@ use mathlib.Core.Option.{none, some}
 use native.Mathlib.Decide.{decLt}
 use native.Mathlib.Numerals.{add-one}
 use native.Mathlib.Omega.{arith}
-use borrow.Author.Tests.{lt-ltb, le-ltb, le-leb, lt-leb}
+use borrow.Author.Tests.{lt-ltb, le-ltb, le-leb, lt-leb, eq-eqb, ne-eqb}
 use lib.ListN.{length, getD, take, drop, drop-of-length-le}
 use lib.Seq.{drop-cons}
 use lib.Dec.{leb, ltb, eqb}
@@ -15,7 +15,8 @@ use Rattle.model.specs.Ceilings.{most-gates, most-fanins}
 use Rattle.frames.specs.Table.{rising-from}
 use Rattle.network.specs.declared.rows.Fault.{Fault}
 use Rattle.network.specs.declared.rows.Fault.the-variants.{None, At}
-use Rattle.network.specs.RowsCheck.{fault-if, told, first-of, gate-length, gates-length, gate-fault, first-fault, heavy-fault, first-heavy-fault}
+use Rattle.network.specs.Rows.{Rows, too-short}
+use Rattle.network.specs.RowsCheck.{fault-if, told, first-of, gate-length, gates-length, too-long, gate-fault, first-fault, heavy-fault, first-heavy-fault, rows-fault}
 
 -- a row of l places has room for eight places a gate
 pub eighth : (l gates : ℕ) → ltb (l / 8) gates ≡ ltb l (8 * gates)
@@ -128,3 +129,29 @@ module _ (v count : ℕ) (fanins : List ℕ) where
   fault-six number k ordered g h e =
       let m : min count most-fanins ≡ 8 * number + k - 8 * number = omega arith in
       rw (le-ltb most-fanins count (h .0), lt-leb most-gates v (g .0), m, ← (g .1), ← e) (told-if (not ordered) 6 (number + 2))
+
+-- all of them: 10, 1, those of the gates, 8, 9
+
+module _ (capacity gates : ℕ) (rows : Rows) where
+  pub ten-decides : too-short gates rows ≡ true → At 10 0 ≡ rows-fault capacity gates rows
+  unfolding rows-fault
+  ten-decides s = rw s
+
+  pub one-decides : too-short gates rows ≡ false → too-long (rows .counts) gates ≡ true → At 1 0 ≡ rows-fault capacity gates rows
+  unfolding rows-fault
+  one-decides s l = rw (s, l)
+
+  module _ (s : too-short gates rows ≡ false) (l : too-long (rows .counts) gates ≡ false) where
+    pub gate-decides : {number line : ℕ} → first-fault (rows .counts) (rows .fanins) 0 gates ≡ At number line
+        → first-fault (rows .counts) (rows .fanins) 0 gates ≡ rows-fault capacity gates rows
+    unfolding rows-fault
+    gate-decides f = rw (s, l, f)
+
+    pub eight-decides : first-fault (rows .counts) (rows .fanins) 0 gates ≡ None → gates ≡ 0 → At 8 2 ≡ rows-fault capacity gates rows
+    unfolding rows-fault
+    eight-decides f z = rw (s, l, f, eq-eqb gates 0 z)
+
+    pub nine-decides : first-fault (rows .counts) (rows .fanins) 0 gates ≡ None → (gates ≡ 0 → ⊥)
+        → first-heavy-fault capacity (rows .weights) 0 gates ≡ rows-fault capacity gates rows
+    unfolding rows-fault
+    nine-decides f z = rw (s, l, f, ne-eqb gates 0 z)

@@ -9,5 +9,6 @@ pub mod RowLaws
 pub mod Spelled
 pub mod RowsCheck
 pub mod Faults
+pub mod Checked
 pub mod RoundTrip
 pub mod Examples

@@ -11,11 +11,6 @@ use Rattle.network.specs.RowsCheck.{fault-if}
 use Rattle.network.proofs.Faults.{fault-four, fault-five, fault-six}
 use Rattle.network.proofs.rows.gate_fault.Statement.{statement}
 use Rattle.network.proofs.rows.gate_fault.Tie as tie
-use Rattle.network.proofs.rows.gate_fault.Reads as reads
-use Rattle.network.proofs.rows.gate_fault.Lts as lts
-use Rattle.network.proofs.rows.rising.Reads as rising-reads
-use Rattle.units.proofs.FanInCount.new.Reads as FanInCount-new-reads
-use Rattle.units.proofs.GateNumber.new.Reads as GateNumber-new-reads
 
 few : (c : tie.After-fan-ins)
     → (c .before .before .before .before .args .count ≤ most-fanins) × (c .fan-ins .given .0 .0 .0 ≡ c .before .before .before .before .args .count)

@@ -8,9 +8,6 @@ use Rattle.units.proofs.Makers.{counted-made, counted-above}
 use Rattle.network.specs.RowsCheck.{gate-length}
 use Rattle.network.proofs.rows.gate_length.Statement.{statement}
 use Rattle.network.proofs.rows.gate_length.Tie as tie
-use Rattle.network.proofs.rows.gate_length.Reads as reads
-use Rattle.network.proofs.rows.gate_length.Lts as lts
-use Rattle.units.proofs.FanInCount.new.Reads as new-reads
 
 made : (c : tie.After-fan-ins) → (c .before .before .before .args .count ≤ most-fanins) × (c .fan-ins .given .0 .0 .0 ≡ c .before .before .before .args .count)
 made c = counted-made _ _ (sym (c .before .before .new .ensures) ∙ c .fan-ins .given .1)

@@ -12,9 +12,6 @@ use Rattle.network.specs.RowsCheck.{gates-length, text-length, too-long}
 use Rattle.network.proofs.Faults.{gate-length-most, gates-length-turn, gates-length-over}
 use Rattle.network.proofs.rows.long.Statement.{statement}
 use Rattle.network.proofs.rows.long.Tie as tie
-use Rattle.network.proofs.rows.long.Reads as reads
-use Rattle.network.proofs.rows.long.Lts as lts
-use Rattle.network.proofs.rows.gate_length.Reads as gate-length-reads
 
 abbrev Inv-loop : tie.InvT-loop
 Inv-loop gates counts bytes₀ v₀ bytes v = bytes + gates-length counts v (gates - v) ≡ text-length counts gates

@@ -11,9 +11,6 @@ use Rattle.frames.specs.Table.{rising-from}
 use Rattle.network.proofs.Faults.{rising-on, rising-broken, rising-over}
 use Rattle.network.proofs.rows.rising.Statement.{statement}
 use Rattle.network.proofs.rows.rising.Tie as tie
-use Rattle.network.proofs.rows.rising.Reads as reads
-use Rattle.network.proofs.rows.rising.Lts as lts
-use Rattle.network.proofs.rows.in_place.Reads as in-place-reads
 
 abbrev Inv-loop : tie.InvT-loop
 Inv-loop fanins gate least₀ i₀ least i = (i ≤ length fanins) × (rising-from least gate (drop i fanins) ≡ rising-from 0 gate fanins)
@@ -60,7 +57,7 @@ loop-again c =
     let at = test .before in (
       omega arith,
       rising-on (at .before .before .args .fanins .now) (at .loop .i) (at .loop .least) (at .before .before .args .gate) (test .loop-test .taken) (sym (c .before .before .in-place .ensures) ∙ c .before .if1 .taken)
-      ∙ at .loop .inv .1,
+          ∙ at .loop .inv .1,
     )
 
 returns : tie.Need-returns Inv-loop μ-loop

@@ -1,55 +1,78 @@
+-- `network::rows::rows_fault` meets its contract: each check is made where those before it found nothing.
+use mathlib.Core.Path.{_≡_, sym, _∙_}
+use mathlib.Core.Bool.{true, false}
 use borrow.Author.Needs.{needs}
+use Rattle.network.specs.Rows.{Rows, too-short}
+use Rattle.network.specs.RowsCheck.{rows-of, too-long}
+use Rattle.network.proofs.RowLaws.{Room, room}
+use Rattle.network.proofs.Faults.{ten-decides, one-decides, gate-decides, eight-decides, nine-decides}
 use Rattle.network.proofs.rows.rows_fault.Statement.{statement}
 use Rattle.network.proofs.rows.rows_fault.Tie as tie
-use Rattle.network.proofs.rows.rows_fault.Reads as reads
-use Rattle.network.proofs.rows.rows_fault.Lts as lts
-use Rattle.network.proofs.rows.first_fault.Reads as first-fault-reads
-use Rattle.network.proofs.rows.first_heavy.Reads as first-heavy-reads
-use Rattle.network.proofs.rows.long.Reads as long-reads
-use Rattle.network.proofs.rows.short.Reads as short-reads
 
--- src/rows.rt:182:8
+abbrev rows : tie.Start → Rows
+rows c = rows-of (c .args .weights .now) (c .args .delays .now) (c .args .counts .now) (c .args .fanins .now)
+
+too-few : (c : tie.Then1) → too-short (c .before .before .before .before .before .before .args .gates) (rows (c .before .before .before .before .before .before)) ≡ true
+too-few c = sym (c .before .short .ensures) ∙ c .if1 .taken
+
+long-enough : (c : tie.Else1) → too-short (c .before .before .before .before .before .before .args .gates) (rows (c .before .before .before .before .before .before)) ≡ false
+long-enough c = sym (c .before .short .ensures) ∙ c .if1 .left
+
+spelled-short : (c : tie.Else2) → too-long (c .before .before .before .before .before .before .before .before .args .counts .now) (c .before .before .before .before .before .before .before .before .args .gates) ≡ false
+spelled-short c = sym (c .before .long .ensures) ∙ c .if2 .left
+
 short-requires : tie.Need-short-requires
 short-requires c κs = search needs
 
--- src/rows.rt:183:9
 returns : tie.Need-returns
-returns c = ?
+returns c =
+    let a = c .before .before .before .before .before .before in
+    ten-decides (a .args .capacity .0) (a .args .gates) (rows a) (too-few c)
 
--- src/rows.rt:188:8
 long-requires : tie.Need-long-requires
-long-requires c κs = ?
+long-requires c κs = room _ _ (long-enough c) .counts
 
--- src/rows.rt:189:9
 returns-2 : tie.Need-returns-2
-returns-2 c = ?
+returns-2 c =
+    let a = c .before .before .before .before .before .before .before .before in
+    one-decides (a .args .capacity .0) (a .args .gates) (rows a) (long-enough (c .before .before)) (sym (c .before .long .ensures) ∙ c .if2 .taken)
 
--- src/rows.rt:191:9
 first-fault-requires : tie.Need-first-fault-requires
-first-fault-requires c κs = ?
+first-fault-requires c κs =
+    let r = room _ _ (long-enough (c .before .before)) in
+    (r .counts, r .fanins)
 
 enum-told : tie.Need-enum-told
 enum-told c = search needs
 
--- src/rows.rt:193:9
 enum-told-2 : tie.Need-enum-told-2
 enum-told-2 c = search needs
 
--- src/rows.rt:193:9
 returns-3 : tie.Need-returns-3
-returns-3 c = ?
+returns-3 c =
+    let found = c .before .before in
+    let tests = found .before in
+    let a = tests .before .before .before .before .before .before .before .before in
+    found .first-fault .ensures
+    ∙ gate-decides (a .args .capacity .0) (a .args .gates) (rows a) (long-enough (tests .before .before)) (spelled-short tests) (sym (found .first-fault .ensures) ∙ c .enum-told2 .given .1)
 
--- src/rows.rt:196:9
 returns-4 : tie.Need-returns-4
-returns-4 c = ?
+returns-4 c =
+    let found = c .before .before .before in
+    let tests = found .before in
+    let a = tests .before .before .before .before .before .before .before .before in
+    eight-decides (a .args .capacity .0) (a .args .gates) (rows a) (long-enough (tests .before .before)) (spelled-short tests) (sym (found .first-fault .ensures) ∙ c .before .enum-told .given .1) (c .if3 .taken)
 
--- src/rows.rt:201:5
 first-heavy-requires : tie.Need-first-heavy-requires
-first-heavy-requires c κs = ?
+first-heavy-requires c κs = room _ _ (long-enough (c .before .before .before .before .before .before)) .weights
 
--- src/rows.rt:172:1
 returns-5 : tie.Need-returns-5
-returns-5 c = ?
+returns-5 c =
+    let found = c .before .before .before .before in
+    let tests = found .before in
+    let a = tests .before .before .before .before .before .before .before .before in
+    c .first-heavy .ensures
+    ∙ nine-decides (a .args .capacity .0) (a .args .gates) (rows a) (long-enough (tests .before .before)) (spelled-short tests) (sym (found .first-fault .ensures) ∙ c .before .before .enum-told .given .1) (c .before .if3 .left)
 
 pub rows-fault-spec : {M : Type 1} → statement M
 rows-fault-spec =
