@@ -10,5 +10,6 @@ pub mod Spelled
 pub mod RowsCheck
 pub mod Faults
 pub mod Checked
+pub mod RowsUnique
 pub mod RoundTrip
 pub mod Examples

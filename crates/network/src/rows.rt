@@ -32,9 +32,10 @@ const MOST_TEXT: usize = 24_576;
 // The bytes of the two lines that every network has, its header's and its end's.
 const OUTER_LINES: usize = 22;
 
-// The bytes of a gate's line without its fan-ins, and of each fan-in.
+// The bytes of a gate's line without its fan-ins.
 const BARE_GATE: usize = 13;
 
+// The bytes of a fan-in in its gate's line.
 const FAN_IN: usize = 4;
 
 // The line of gate 0: the header has the first.
@@ -47,7 +48,7 @@ enum Fault {
 }
 
 // 10: whether a row is too short for so many gates. Their eightfold is not formed, since 64 bits may not hold it.
-fn short(gates: usize, weights: &[u16], delays: &[u16], counts: &[u8], fanins: &[u16]) -> bool
+fn too_short(gates: usize, weights: &[u16], delays: &[u16], counts: &[u8], fanins: &[u16]) -> bool
     ensures { λ r. ⌜ r ≡ too-short gates (rows-of (now (weights .entry)) (now (delays .entry)) (now (counts .entry)) (now (fanins .entry))) ⌝ }
 {
     weights.len() < gates
@@ -67,7 +68,7 @@ fn gate_length(count: u8) -> usize
 }
 
 // 1: whether the spelled text is too long. Past the ceiling nothing more is added.
-fn long(gates: usize, counts: &[u8]) -> bool
+fn too_long(gates: usize, counts: &[u8]) -> bool
     requires { ⌜ gates ≤ length (now counts) ⌝ }
     ensures { λ r. ⌜ r ≡ too-long (now (counts .entry)) gates ⌝ }
 {
@@ -179,13 +180,13 @@ fn rows_fault(
 ) -> Fault
     ensures { λ r. ⌜ r ≡ rows-fault (capacity .0) gates (rows-of (now (weights .entry)) (now (delays .entry)) (now (counts .entry)) (now (fanins .entry))) ⌝ }
 {
-    if short(gates, weights, delays, counts, fanins) {
+    if too_short(gates, weights, delays, counts, fanins) {
         return Fault::At {
             number: 10,
             line: 0,
         };
     }
-    if long(gates, counts) {
+    if too_long(gates, counts) {
         return Fault::At { number: 1, line: 0 };
     }
     let fault = first_fault(gates, counts, fanins);

@@ -13,29 +13,29 @@ abbrev rows : tie.Start → Rows
 rows c = rows-of (c .args .weights .now) (c .args .delays .now) (c .args .counts .now) (c .args .fanins .now)
 
 too-few : (c : tie.Then1) → too-short (c .before .before .before .before .before .before .args .gates) (rows (c .before .before .before .before .before .before)) ≡ true
-too-few c = sym (c .before .short .ensures) ∙ c .if1 .taken
+too-few c = sym (c .before .too-short .ensures) ∙ c .if1 .taken
 
 long-enough : (c : tie.Else1) → too-short (c .before .before .before .before .before .before .args .gates) (rows (c .before .before .before .before .before .before)) ≡ false
-long-enough c = sym (c .before .short .ensures) ∙ c .if1 .left
+long-enough c = sym (c .before .too-short .ensures) ∙ c .if1 .left
 
 spelled-short : (c : tie.Else2) → too-long (c .before .before .before .before .before .before .before .before .args .counts .now) (c .before .before .before .before .before .before .before .before .args .gates) ≡ false
-spelled-short c = sym (c .before .long .ensures) ∙ c .if2 .left
+spelled-short c = sym (c .before .too-long .ensures) ∙ c .if2 .left
 
-short-requires : tie.Need-short-requires
-short-requires c κs = search needs
+too-short-requires : tie.Need-too-short-requires
+too-short-requires c κs = search needs
 
 returns : tie.Need-returns
 returns c =
     let a = c .before .before .before .before .before .before in
     ten-decides (a .args .capacity .0) (a .args .gates) (rows a) (too-few c)
 
-long-requires : tie.Need-long-requires
-long-requires c κs = room _ _ (long-enough c) .counts
+too-long-requires : tie.Need-too-long-requires
+too-long-requires c κs = room _ _ (long-enough c) .counts
 
 returns-2 : tie.Need-returns-2
 returns-2 c =
     let a = c .before .before .before .before .before .before .before .before in
-    one-decides (a .args .capacity .0) (a .args .gates) (rows a) (long-enough (c .before .before)) (sym (c .before .long .ensures) ∙ c .if2 .taken)
+    one-decides (a .args .capacity .0) (a .args .gates) (rows a) (long-enough (c .before .before)) (sym (c .before .too-long .ensures) ∙ c .if2 .taken)
 
 first-fault-requires : tie.Need-first-fault-requires
 first-fault-requires c κs =
@@ -78,9 +78,9 @@ pub rows-fault-spec : {M : Type 1} → statement M
 rows-fault-spec =
     tie.close
     (tie.spec
-    short-requires
+    too-short-requires
     returns
-    long-requires
+    too-long-requires
     returns-2
     first-fault-requires
     enum-told

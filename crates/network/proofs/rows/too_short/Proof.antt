@@ -1,4 +1,4 @@
--- `network::rows::short` meets its contract: the four tests are those of `too-short`, the last one without the product.
+-- `network::rows::too_short` meets its contract: the four tests are those of `too-short`, the last one without the product.
 use Prim.Native.Nat.{ℕ, _*_, _/_}
 use mathlib.Core.Path.{_≡_, _∙_, ap}
 use mathlib.Core.Logic.{⊎-elim}
@@ -8,8 +8,8 @@ use lib.ListN.{length}
 use lib.Dec.{ltb}
 use Rattle.network.specs.Rows.{too-short}
 use Rattle.network.proofs.Faults.{eighth}
-use Rattle.network.proofs.rows.short.Statement.{statement}
-use Rattle.network.proofs.rows.short.Tie as tie
+use Rattle.network.proofs.rows.too_short.Statement.{statement}
+use Rattle.network.proofs.rows.too_short.Tie as tie
 
 two : (c : tie.Joined1)
     → c .if1 .if2 ≡ (ltb (length (c .before .args .weights .now)) (c .before .args .gates) || ltb (length (c .before .args .delays .now)) (c .before .args .gates))
@@ -26,5 +26,5 @@ returns-2 : tie.Need-returns-2
 unfolding too-short
 returns-2 c = rw (← (two (c .before .before)), ← (three (c .before)), c .if3 .left, ← (eighth _ _))
 
-pub short-spec : {M : Type 1} → statement M
-short-spec = tie.close (tie.spec returns returns-2)
+pub too-short-spec : {M : Type 1} → statement M
+too-short-spec = tie.close (tie.spec returns returns-2)

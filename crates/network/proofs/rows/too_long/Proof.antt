@@ -1,4 +1,4 @@
--- `network::rows::long` meets its contract. The loop's invariant: the bytes counted, and those of the gates from v on, are
+-- `network::rows::too_long` meets its contract. The loop's invariant: the bytes counted, and those of the gates from v on, are
 -- the text's. Where it is left early they are too many already.
 use Prim.Native.Nat.{_+_, _-_, _≤_}
 use mathlib.Core.Path.{_≡_, sym, _∙_}
@@ -10,8 +10,8 @@ use lib.ListN.{getD}
 use Rattle.network.specs.Reading.{most-text}
 use Rattle.network.specs.RowsCheck.{gates-length, text-length, too-long}
 use Rattle.network.proofs.Faults.{gate-length-most, gates-length-turn, gates-length-over}
-use Rattle.network.proofs.rows.long.Statement.{statement}
-use Rattle.network.proofs.rows.long.Tie as tie
+use Rattle.network.proofs.rows.too_long.Statement.{statement}
+use Rattle.network.proofs.rows.too_long.Tie as tie
 
 abbrev Inv-loop : tie.InvT-loop
 Inv-loop gates counts bytes₀ v₀ bytes v = bytes + gates-length counts v (gates - v) ≡ text-length counts gates
@@ -57,8 +57,8 @@ returns c =
     rw all)
     (c .loop-test .came)
 
-pub long-spec : {M : Type 1} → statement M
-long-spec =
+pub too-long-spec : {M : Type 1} → statement M
+too-long-spec =
     tie.close
     (tie.spec
     Inv-loop
