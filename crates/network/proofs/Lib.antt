@@ -7,9 +7,12 @@ pub mod Frames
 pub mod Faultless
 pub mod Accepted
 pub mod AcceptedNetwork
-pub mod Rows
+pub mod RowLaws
 pub mod Spelled
 pub mod RowsCheck
+pub mod Faults
+pub mod Checked
+pub mod RowsUnique
 pub mod RoundTrip
 pub mod Heavy
 pub mod Exactly
