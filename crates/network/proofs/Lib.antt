@@ -10,6 +10,7 @@ pub mod Spelled
 pub mod RowsCheck
 pub mod Faults
 pub mod Checked
+pub mod CheckedExamples
 pub mod RowsUnique
 pub mod RoundTrip
 pub mod Examples
