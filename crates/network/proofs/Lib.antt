@@ -12,6 +12,7 @@ pub mod Spelled
 pub mod RowsCheck
 pub mod Faults
 pub mod Checked
+pub mod CheckedExamples
 pub mod RowsUnique
 pub mod RoundTrip
 pub mod Heavy
