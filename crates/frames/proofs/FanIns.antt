@@ -1,25 +1,23 @@
 -- The fan-ins of a line that was read as a gate: as many as its count, each where `fan_in` reads it.
-use Prim.Native.Nat.{ℕ, suc, _+_, _*_, _-_, _≤_, _<_}
+use Prim.Native.Nat.{ℕ, _+_, _*_, _-_, _<_}
 use mathlib.Core.Path.{_≡_, refl, sym, ap, subst, _∙_}
-use mathlib.Core.Bool.{Bool, true, false, cond, not, _||_}
-use mathlib.Core.List.{List, [], _∷_}
-use mathlib.Core.Option.{Option, none, some}
+use mathlib.Core.Bool.{Bool, true, false, not, _||_}
+use mathlib.Core.List.{List, _∷_}
+use mathlib.Core.Option.{none}
 use native.Mathlib.Omega.{arith}
-use native.Mathlib.Decide.{decLt}
-use lib.ListN.{length, getD, drop, drop-of-length-le}
-use lib.Dec.{ltb, eqb}
+use lib.ListN.{length, getD, drop}
+use lib.Dec.{ltb}
 use Rattle.model.specs.Ceilings.{most-fanins}
 use borrow.Author.Tests.{eqb-true, not-false}
-use Rattle.units.specs.Units.{cells, ticks}
 use Rattle.units.specs.declared.Cells.{Cells}
 use Rattle.units.specs.declared.Ticks.{Ticks}
 use Rattle.units.specs.declared.FanInCount.{FanInCount}
 use Rattle.frames.specs.declared.Place.{Place}
-use Rattle.frames.specs.declared.LineRead.{LineRead}
-use Rattle.frames.specs.declared.LineRead.the-variants.{Header, Gate, End}
+use Rattle.frames.specs.declared.LineRead.the-variants.{Gate}
 use Rattle.frames.specs.Text.{Line, lines}
-use Rattle.frames.specs.Table.{fault, kind, frame-length, header-capacity, header-hop, gate-of, gate-count, gate-fanins}
-use Rattle.frames.specs.Frames.{frame, told, judged, line-read, line-from, line-length, fan-in-from}
+use Rattle.frames.specs.Table.{fault, kind, frame-length, gate-count, gate-fanins}
+use Rattle.frames.specs.Frames.{line-read}
+use Rattle.frames.specs.Places.{line-from, line-length, fan-in-from}
 use Rattle.frames.proofs.Formed.{formed}
 use Rattle.frames.proofs.Rows.{faultless}
 use Rattle.frames.proofs.OfLine.{length-is, fanins-length, fanin-is}

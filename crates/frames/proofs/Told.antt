@@ -1,15 +1,15 @@
 -- What an answer of `read_line` tells its caller of the lines that are left: there is none; the first has this fault; or
 -- the first is this frame, without fault, and the others begin where the answer says.
-use Prim.Native.Nat.{ℕ, suc, _+_, _≤_, _<_}
+use Prim.Native.Nat.{ℕ, _+_, _≤_, _<_}
 use mathlib.Core.Path.{_≡_, refl, sym, ap, _∙_}
-use mathlib.Core.Bool.{Bool, true, false, cond, not, _||_}
+use mathlib.Core.Bool.{Bool, true, false, cond, _||_}
 use mathlib.Core.List.{List, [], _∷_}
 use mathlib.Core.Option.{Option, none, some}
 use mathlib.Core.Logic.{_⊎_, inl, inr, ⊎-elim}
 use native.Mathlib.Omega.{arith}
 use native.Mathlib.Decide.{decLt}
 use lib.ListN.{length, drop, drop-of-length-le}
-use lib.Seq.{slice, length-slice}
+use lib.Seq.{slice}
 use lib.Dec.{eqb}
 use borrow.Author.Tests.{eqb-true, eqb-false, not-false}
 use Rattle.units.specs.Units.{cells, ticks}
@@ -22,7 +22,8 @@ use Rattle.frames.specs.declared.LineRead.{LineRead}
 use Rattle.frames.specs.declared.LineRead.the-variants.{Header, Gate, End, Refused, Nothing}
 use Rattle.frames.specs.Text.{Line, lines}
 use Rattle.frames.specs.Table.{fault, misplaced, kind, header-capacity, header-hop, gate-of, gate-count}
-use Rattle.frames.specs.Frames.{frame, told, judged, line-read, line-from, line-length}
+use Rattle.frames.specs.Frames.{frame, told, judged, line-read}
+use Rattle.frames.specs.Places.{line-from, line-length}
 use Rattle.frames.proofs.Formed.{formed}
 use Rattle.frames.proofs.Rows.{faultless}
 use Rattle.frames.proofs.OfLine.{next-is}

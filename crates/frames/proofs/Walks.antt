@@ -1,17 +1,16 @@
 -- What a walk along the text leaves to do: a line's length, and whether digits are left to test.
-use Prim.Native.Nat.{ℕ, suc, _+_, _-_, _≤_, _<_}
-use mathlib.Core.Path.{_≡_, refl, ap, _∙_}
-use mathlib.Core.Bool.{Bool, true, false, cond, _&&_, and-false}
+use Prim.Native.Nat.{ℕ, suc, _+_, _≤_, _<_}
+use mathlib.Core.Path.{_≡_, refl}
+use mathlib.Core.Bool.{true, false, and-false}
 use mathlib.Core.List.{List, [], _∷_}
 use native.Mathlib.Numerals.{add-one, towards-suc}
 use native.Mathlib.Omega.{arith}
 use lib.ListN.{length, getD, drop, take, drop-of-length-le, length-take}
 use lib.Seq.{drop-cons, slice, slice-cons, length-slice}
-use lib.Dec.{ltb, eqb}
 use borrow.Author.Tests.{eq-eqb, ne-eqb, lt-ltb, le-ltb, le-leb, lt-leb}
 use Rattle.frames.specs.Text.{line-feed, digit, all-digits, bytes, words}
 use Rattle.frames.specs.Table.{rising-from}
-use Rattle.frames.specs.Frames.{line-length, word-from}
+use Rattle.frames.specs.Places.{line-length, word-from}
 use Rattle.frames.proofs.Bytes.{length-bytes, length-words}
 
 pub length-past : (text : List ℕ) (i : ℕ) → length text ≤ i → line-length (drop i text) ≡ 0

@@ -2,3 +2,4 @@
 pub mod Text
 pub mod Table
 pub mod Frames
+pub mod Places
