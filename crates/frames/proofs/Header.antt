@@ -39,6 +39,10 @@ header-frame : (l : Line) (next : ℕ) → kind l ≡ 0x01 → frame l next ≡ 
 unfolding frame
 header-frame l next k = simp (eq-eqb (kind l) 0x01 k)
 
+-- Headers of the same numbers are the same.
+pub same-header : {c c′ h h′ : ℕ} (next : ℕ) → c ≡ c′ → h ≡ h′ → Header (cells c) (ticks h) next ≡ Header (cells c′) (ticks h′) next
+same-header next p q = λ i. Header (cells (p i)) (ticks (q i)) next
+
 module _ (text : List ℕ) (at end line : ℕ) (two : malformed Opening (line-from text at end) ≡ false) where
   form : Formed text at end
   form = formed Opening text at end two

@@ -1,6 +1,6 @@
 -- `frames::all_digits` meets its contract. The loop's invariant: what is left to test decides as the whole does.
 use Prim.Native.Nat.{_-_}
-use mathlib.Core.Path.{_≡_}
+use mathlib.Core.Path.{_≡_, sym, _∙_}
 use native.Mathlib.Omega.{arith}
 use borrow.Author.Needs.{needs}
 use lib.ListN.{getD}
@@ -30,7 +30,8 @@ returns : tie.Need-returns Inv-loop μ-loop
 returns c =
     let a = c .before .before .before .before .before .before .args in
     let i = c .before .before .before .before .loop .i in
-    cc (digits-bad (a .text .now) i (a .end) (search needs) (search needs) (cc))
+    sym (digits-bad (a .text .now) i (a .end) (search needs) (search needs) (sym (c .before .digit .ensures) ∙ c .if1 .taken))
+    ∙ c .before .before .before .before .loop .inv
 
 add-i : tie.Need-add-i Inv-loop μ-loop
 add-i c = search needs
@@ -42,12 +43,13 @@ loop-again : tie.Need-loop-again Inv-loop μ-loop
 loop-again c =
     let a = c .before .before .before .before .before .before .args in
     let i = c .before .before .before .before .loop .i in
-    cc (digits-more (a .text .now) i (a .end) (search needs) (search needs) (omega (arith, digit-most (getD (a .text .now) i 0))))
+    sym (digits-more (a .text .now) i (a .end) (search needs) (search needs) (omega (arith, digit-most (getD (a .text .now) i 0))))
+    ∙ c .before .before .before .before .loop .inv
 
 returns-2 : tie.Need-returns-2 Inv-loop μ-loop
 returns-2 c =
     let a = c .before .before .before .args in
-    cc (digits-none (a .text .now) (c .before .loop .i) (a .end) (search needs))
+    sym (digits-none (a .text .now) (c .before .loop .i) (a .end) (search needs)) ∙ c .before .loop .inv
 
 pub all-digits-spec : {M : Type 1} → statement M
 all-digits-spec =

@@ -1,6 +1,6 @@
 -- `frames::read_end` meets its contract: each answer is a row of the table, or the end frame.
 use borrow.Author.Needs.{needs}
-use mathlib.Core.Path.{_∙_}
+use mathlib.Core.Path.{sym, _∙_}
 use native.Mathlib.Omega.{arith}
 use Rattle.frames.specs.declared.Place.the-variants.{Opening}
 use Rattle.frames.proofs.Formed.{Formed, formed}
@@ -33,7 +33,7 @@ returns-2 c =
 returns-3 : tie.Need-returns-3
 returns-3 c =
     let s = c .before .before .before .before .before in
-    end-8 (s .args .text .now) (s .args .at) (s .args .end) (s .args .gates) (s .args .line) (s .pre .0) (s .pre .1) (search needs) (cc) (c .if3 .taken)
+    end-8 (s .args .text .now) (s .args .at) (s .args .end) (s .args .gates) (s .args .line) (s .pre .0) (s .pre .1) (c .before .before .before .if1 .left) (sym (c .before .before .word-at .ensures) ∙ c .before .if2 .left) (c .if3 .taken)
 
 add-t6 : tie.Need-add-t6
 add-t6 c = omega (arith, form (c .before .before .before .before .before))
@@ -41,7 +41,7 @@ add-t6 c = omega (arith, form (c .before .before .before .before .before))
 returns-4 : tie.Need-returns-4
 returns-4 c =
     let s = c .before .before .before .before .before in
-    end-read (s .args .text .now) (s .args .at) (s .args .end) (s .args .gates) (s .args .line) (s .pre .0) (s .pre .1) (search needs) (cc) (c .if3 .left)
+    end-read (s .args .text .now) (s .args .at) (s .args .end) (s .args .gates) (s .args .line) (s .pre .0) (s .pre .1) (c .before .before .before .if1 .left) (sym (c .before .before .word-at .ensures) ∙ c .before .if2 .left) (c .if3 .left)
 
 pub read-end-spec : {M : Type 1} → statement M
 read-end-spec =

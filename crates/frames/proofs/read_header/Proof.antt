@@ -1,10 +1,11 @@
 -- `frames::read_header` meets its contract: each answer is a row of the table, or the header frame.
 use borrow.Author.Needs.{needs}
-use mathlib.Core.Path.{_∙_}
+use Prim.Native.Nat.{_+_}
+use mathlib.Core.Path.{sym, _∙_}
 use native.Mathlib.Omega.{arith}
 use Rattle.frames.specs.declared.Place.the-variants.{Opening}
 use Rattle.frames.proofs.Formed.{formed}
-use Rattle.frames.proofs.Header.{header-3, header-4, header-read}
+use Rattle.frames.proofs.Header.{header-3, header-4, header-read, same-header}
 use Rattle.frames.proofs.read_header.Statement.{statement}
 use Rattle.frames.proofs.read_header.Tie as tie
 
@@ -26,7 +27,7 @@ sub-if2 c =
 returns-2 : tie.Need-returns-2
 returns-2 c =
     let s = c .before .before .before .before in
-    header-4 (s .args .text .now) (s .args .at) (s .args .end) (s .args .line) (s .pre) (cc) (c .if2 .taken)
+    header-4 (s .args .text .now) (s .args .at) (s .args .end) (s .args .line) (s .pre) (sym (c .before .before .byte-at .ensures) ∙ c .before .if1 .left) (c .if2 .taken)
 
 add-long-at : tie.Need-add-long-at
 add-long-at c = search needs
@@ -48,7 +49,10 @@ add-t12 c =
 returns-3 : tie.Need-returns-3
 returns-3 c =
     let s = c .before .before .before .before .before .before in
-    cc (header-read (s .args .text .now) (s .args .at) (s .args .end) (s .args .line) (s .pre) (cc) (cc))
+    same-header (s .args .end + 1) (c .before .long-at .ensures) (c .word-at .ensures)
+    ∙ header-read (s .args .text .now) (s .args .at) (s .args .end) (s .args .line) (s .pre)
+    (sym (c .before .before .before .before .byte-at .ensures) ∙ c .before .before .before .if1 .left)
+    (c .before .before .if2 .left)
 
 pub read-header-spec : {M : Type 1} → statement M
 read-header-spec =
