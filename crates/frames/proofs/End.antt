@@ -12,8 +12,7 @@ use Rattle.frames.specs.declared.Place.the-variants.{Opening, AfterGates
 use Rattle.frames.specs.declared.LineRead.the-variants.{End, Refused}
 use Rattle.frames.specs.Text.{Line}
 use Rattle.frames.specs.Table.{malformed, misplaced, wrong-length, one-too-many, unordered, miscounted, no-gates, kind, frame-length, end-count}
-use Rattle.frames.specs.Frames.{frame, judged}
-use Rattle.frames.specs.Places.{line-from, byte-from, word-from}
+use Rattle.frames.specs.Frames.{frame, judged, line-from, byte-from, word-from}
 use Rattle.frames.proofs.Formed.{Formed, formed, any-place}
 use Rattle.frames.proofs.Rows.{judged-4, judged-7, judged-8, judged-frame}
 use Rattle.frames.proofs.OfLine.{kind-is, length-is, next-is, end-count-is}

@@ -16,8 +16,7 @@ use Rattle.frames.specs.declared.Place.{Place}
 use Rattle.frames.specs.declared.LineRead.the-variants.{Gate}
 use Rattle.frames.specs.Text.{Line, lines}
 use Rattle.frames.specs.Table.{fault, kind, frame-length, gate-count, gate-fanins}
-use Rattle.frames.specs.Frames.{line-read}
-use Rattle.frames.specs.Places.{line-from, line-length, fan-in-from}
+use Rattle.frames.specs.Frames.{line-read, line-from, line-length, fan-in-from}
 use Rattle.frames.proofs.Formed.{formed}
 use Rattle.frames.proofs.Rows.{faultless}
 use Rattle.frames.proofs.OfLine.{length-is, fanins-length, fanin-is}

@@ -16,8 +16,7 @@ use Rattle.frames.specs.declared.Place.the-variants.{Opening, AfterGates
 use Rattle.frames.specs.declared.LineRead.the-variants.{Gate, Refused}
 use Rattle.frames.specs.Text.{Line, bytes, words}
 use Rattle.frames.specs.Table.{malformed, misplaced, wrong-length, one-too-many, unordered, miscounted, no-gates, rising-from, kind, frame-length, gate-count, gate-fanins, gate-of}
-use Rattle.frames.specs.Frames.{frame, judged}
-use Rattle.frames.specs.Places.{line-from, byte-from, word-from}
+use Rattle.frames.specs.Frames.{frame, judged, line-from, byte-from, word-from}
 use Rattle.frames.proofs.Formed.{Formed, formed, any-place}
 use Rattle.frames.proofs.Rows.{judged-4, judged-5, judged-6, judged-frame}
 use Rattle.frames.proofs.OfLine.{kind-is, length-is, next-is, count-is, weight-is, delay-is, fanins-are}

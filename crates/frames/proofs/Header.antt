@@ -14,8 +14,7 @@ use Rattle.frames.specs.declared.Place.the-variants.{Opening}
 use Rattle.frames.specs.declared.LineRead.the-variants.{Header, Refused}
 use Rattle.frames.specs.Text.{Line}
 use Rattle.frames.specs.Table.{malformed, misplaced, wrong-length, one-too-many, unordered, miscounted, no-gates, kind, frame-length, header-capacity, header-hop}
-use Rattle.frames.specs.Frames.{frame, judged}
-use Rattle.frames.specs.Places.{line-from, byte-from, word-from, long-from}
+use Rattle.frames.specs.Frames.{frame, judged, line-from, byte-from, word-from, long-from}
 use Rattle.frames.proofs.Formed.{Formed, formed}
 use Rattle.frames.proofs.Rows.{judged-3, judged-4, judged-frame}
 use Rattle.frames.proofs.OfLine.{kind-is, length-is, next-is, capacity-is, hop-is}

@@ -8,7 +8,7 @@ use lib.ListN.{length, getD, List·getD-eq-default}
 use lib.Dec.{leb}
 use borrow.Author.Tests.{leb-true}
 use Rattle.frames.specs.Text.{digit}
-use Rattle.frames.specs.Places.{digit-at, byte-from, word-from}
+use Rattle.frames.specs.Frames.{digit-at, byte-from, word-from}
 
 pub digit-most : (b : ℕ) → digit b ≤ 16
 unfolding digit

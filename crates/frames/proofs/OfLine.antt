@@ -7,7 +7,7 @@ use lib.ListN.{length, getD, drop, take, length-drop}
 use lib.Seq.{slice, length-slice, getD-drop, drop-drop}
 use Rattle.frames.specs.Text.{bytes, word-at, words}
 use Rattle.frames.specs.Table.{kind, frame-length, header-capacity, header-hop, gate-count, gate-fanins, gate-of, end-count}
-use Rattle.frames.specs.Places.{line-from, byte-from, word-from, long-from, fan-in-from}
+use Rattle.frames.specs.Frames.{line-from, byte-from, word-from, long-from, fan-in-from}
 use Rattle.frames.proofs.Formed.{Formed}
 use Rattle.frames.proofs.Bytes.{length-bytes, drop-bytes, length-words, line-byte, line-word, line-long, word-here}
 

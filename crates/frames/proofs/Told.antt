@@ -22,8 +22,7 @@ use Rattle.frames.specs.declared.LineRead.{LineRead}
 use Rattle.frames.specs.declared.LineRead.the-variants.{Header, Gate, End, Refused, Nothing}
 use Rattle.frames.specs.Text.{Line, lines}
 use Rattle.frames.specs.Table.{fault, misplaced, kind, header-capacity, header-hop, gate-of, gate-count}
-use Rattle.frames.specs.Frames.{frame, told, judged, line-read}
-use Rattle.frames.specs.Places.{line-from, line-length}
+use Rattle.frames.specs.Frames.{frame, told, judged, line-read, line-from, line-length}
 use Rattle.frames.proofs.Formed.{formed}
 use Rattle.frames.proofs.Rows.{faultless}
 use Rattle.frames.proofs.OfLine.{next-is}

@@ -2,4 +2,3 @@
 pub mod Text
 pub mod Table
 pub mod Frames
-pub mod Places

@@ -11,8 +11,7 @@ ghost use lib.ListN.{length, drop};
 ghost use lib.Seq.{slice};
 ghost use Rattle.frames.specs.Text.{digit, all-digits, bytes, words};
 ghost use Rattle.frames.specs.Table.{malformed, rising-from};
-ghost use Rattle.frames.specs.Frames.{judged, line-read};
-ghost use Rattle.frames.specs.Places.{digit-at, byte-from, word-from, long-from, fan-in-from, line-length, line-from};
+ghost use Rattle.frames.specs.Frames.{judged, line-read, digit-at, byte-from, word-from, long-from, fan-in-from, line-length, line-from};
 ghost use Rattle.frames.specs.declared.Place.the-variants.{Opening, AfterGates};
 use units::Cells;
 use units::Counted;
@@ -180,10 +179,10 @@ fn all_digits(text: &[u8], at: usize, end: usize) -> bool
 // Whether the line from `at` up to `end` is of the right form: not empty, ended, an even number of digits and nothing
 // else. Refusal 2 is given where it is not.
 fn well_formed(text: &[u8], at: usize, end: usize) -> bool
-    requires { ⌜ end ≤ length (now text) ⌝ }
+    requires { ⌜ (at ≤ end) × (end ≤ length (now text)) ⌝ }
     ensures { λ r. ⌜ r ≡ not (malformed Opening (line-from (now (text .entry)) at end)) ⌝ }
 {
-    if end <= at {
+    if end == at {
         return false;
     }
     if text.len() <= end {

@@ -1,7 +1,7 @@
 -- `frames::digit_at` meets its contract: past the end `getD` gives 0, which is no digit.
 use mathlib.Core.Path.{sym}
 use borrow.Author.Needs.{needs}
-use Rattle.frames.specs.Places.{digit-at}
+use Rattle.frames.specs.Frames.{digit-at}
 use Rattle.frames.proofs.Numbers.{digit-past}
 use Rattle.frames.proofs.digit_at.Statement.{statement}
 use Rattle.frames.proofs.digit_at.Tie as tie

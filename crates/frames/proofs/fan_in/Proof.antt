@@ -6,7 +6,7 @@ use native.Mathlib.Omega.{arith}
 use borrow.Author.Needs.{needs}
 use borrow.Author.Tests.{ltb-true, ltb-false}
 use lib.ListN.{length}
-use Rattle.frames.specs.Places.{fan-in-from}
+use Rattle.frames.specs.Frames.{fan-in-from}
 use Rattle.frames.proofs.Numbers.{word-most, word-past}
 use Rattle.frames.proofs.fan_in.Statement.{statement}
 use Rattle.frames.proofs.fan_in.Tie as tie

@@ -29,8 +29,8 @@ returns-3 : tie.Need-returns-3
 returns-3 c =
     let s = c .before .before .before .before in
     gates-3 (s .args .text .now) (s .args .at) (s .args .end) (s .args .gates) (s .args .line) (s .pre)
-    (λ e. c .before .if1 .left (c .before .before .byte-at .ensures ∙ e))
-    (λ e. c .if2 .left (c .before .before .byte-at .ensures ∙ e))
+    (omega arith)
+    (omega arith)
 
 pub read-after-header-spec : {M : Type 1} → statement M
 read-after-header-spec =

@@ -17,7 +17,7 @@ sub-if1 c = omega (arith, form (c .before))
 returns : tie.Need-returns
 returns c =
     let s = c .before .before in
-    end-4 (s .args .text .now) (s .args .at) (s .args .end) (s .args .gates) (s .args .line) (s .pre .0) (s .pre .1) (c .if1 .taken)
+    end-4 (s .args .text .now) (s .args .at) (s .args .end) (s .args .gates) (s .args .line) (s .pre .0) (s .pre .1) (omega arith)
 
 add-word-at : tie.Need-add-word-at
 add-word-at c = search needs
@@ -28,12 +28,12 @@ word-at-requires c κs = search needs
 returns-2 : tie.Need-returns-2
 returns-2 c =
     let s = c .before .before .before .before in
-    end-7 (s .args .text .now) (s .args .at) (s .args .end) (s .args .gates) (s .args .line) (s .pre .0) (s .pre .1) (c .before .before .if1 .left) (λ e. c .if2 .taken (c .before .word-at .ensures ∙ e))
+    end-7 (s .args .text .now) (s .args .at) (s .args .end) (s .args .gates) (s .args .line) (s .pre .0) (s .pre .1) (omega arith) (omega arith)
 
 returns-3 : tie.Need-returns-3
 returns-3 c =
     let s = c .before .before .before .before .before in
-    end-8 (s .args .text .now) (s .args .at) (s .args .end) (s .args .gates) (s .args .line) (s .pre .0) (s .pre .1) (c .before .before .before .if1 .left) (sym (c .before .before .word-at .ensures) ∙ c .before .if2 .left) (c .if3 .taken)
+    end-8 (s .args .text .now) (s .args .at) (s .args .end) (s .args .gates) (s .args .line) (s .pre .0) (s .pre .1) (omega arith) (omega arith) (omega arith)
 
 add-t6 : tie.Need-add-t6
 add-t6 c = omega (arith, form (c .before .before .before .before .before))
@@ -41,7 +41,7 @@ add-t6 c = omega (arith, form (c .before .before .before .before .before))
 returns-4 : tie.Need-returns-4
 returns-4 c =
     let s = c .before .before .before .before .before in
-    end-read (s .args .text .now) (s .args .at) (s .args .end) (s .args .gates) (s .args .line) (s .pre .0) (s .pre .1) (c .before .before .before .if1 .left) (sym (c .before .before .word-at .ensures) ∙ c .before .if2 .left) (c .if3 .left)
+    end-read (s .args .text .now) (s .args .at) (s .args .end) (s .args .gates) (s .args .line) (s .pre .0) (s .pre .1) (omega arith) (omega arith) (omega arith)
 
 pub read-end-spec : {M : Type 1} → statement M
 read-end-spec =

@@ -10,7 +10,7 @@ use borrow.Author.Tests.{not-true, not-false}
 use lib.Seq.{slice}
 use Rattle.frames.specs.Text.{bytes, words}
 use Rattle.frames.specs.Table.{rising-from}
-use Rattle.frames.specs.Places.{byte-from}
+use Rattle.frames.specs.Frames.{byte-from}
 use Rattle.frames.specs.declared.Place.the-variants.{Opening}
 use Rattle.frames.proofs.Formed.{Formed, formed}
 use Rattle.frames.proofs.Numbers.{byte-most}
@@ -79,7 +79,7 @@ add-if1 c = omega (arith, byte-most (c .before .before .before .before .before .
 returns-2 : tie.Need-returns-2
 returns-2 c =
     let s = c .before .before .before .before .before .before .before in
-    gate-4-length (s .args .text .now) (s .args .at) (s .args .end) (s .args .gates) (s .args .line) (s .pre .0) (s .pre .1) (λ e. c .if1 .taken (omega arith))
+    gate-4-length (s .args .text .now) (s .args .at) (s .args .end) (s .args .gates) (s .args .line) (s .pre .0) (s .pre .1) (omega arith)
 
 new-requires-2 : tie.Need-new-requires-2
 new-requires-2 c κs = search needs

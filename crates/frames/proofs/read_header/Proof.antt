@@ -17,7 +17,7 @@ byte-at-requires c κs =
 returns : tie.Need-returns
 returns c =
     let s = c .before .before .before in
-    header-3 (s .args .text .now) (s .args .at) (s .args .end) (s .args .line) (s .pre) (λ e. c .if1 .taken (c .before .byte-at .ensures ∙ e))
+    header-3 (s .args .text .now) (s .args .at) (s .args .end) (s .args .line) (s .pre) (omega arith)
 
 sub-if2 : tie.Need-sub-if2
 sub-if2 c =
@@ -27,7 +27,7 @@ sub-if2 c =
 returns-2 : tie.Need-returns-2
 returns-2 c =
     let s = c .before .before .before .before in
-    header-4 (s .args .text .now) (s .args .at) (s .args .end) (s .args .line) (s .pre) (sym (c .before .before .byte-at .ensures) ∙ c .before .if1 .left) (c .if2 .taken)
+    header-4 (s .args .text .now) (s .args .at) (s .args .end) (s .args .line) (s .pre) (omega arith) (omega arith)
 
 add-long-at : tie.Need-add-long-at
 add-long-at c = search needs
@@ -51,8 +51,8 @@ returns-3 c =
     let s = c .before .before .before .before .before .before in
     same-header (s .args .end + 1) (c .before .long-at .ensures) (c .word-at .ensures)
     ∙ header-read (s .args .text .now) (s .args .at) (s .args .end) (s .args .line) (s .pre)
-    (sym (c .before .before .before .before .byte-at .ensures) ∙ c .before .before .before .if1 .left)
-    (c .before .before .if2 .left)
+    (omega arith)
+    (omega arith)
 
 pub read-header-spec : {M : Type 1} → statement M
 read-header-spec =

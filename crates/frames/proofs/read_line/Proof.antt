@@ -3,12 +3,12 @@
 use borrow.Author.Needs.{needs}
 use mathlib.Core.Path.{_≡_, refl, sym, _∙_}
 use mathlib.Core.Bool.{true, false}
+use native.Mathlib.Omega.{arith}
 use borrow.Author.Tests.{not-true, not-false}
 use Rattle.frames.specs.declared.Place.{Place}
 use Rattle.frames.specs.declared.Place.the-variants.{Opening, Closed}
 use Rattle.frames.specs.Table.{malformed}
-use Rattle.frames.specs.Frames.{judged, line-read}
-use Rattle.frames.specs.Places.{line-from}
+use Rattle.frames.specs.Frames.{judged, line-read, line-from}
 use Rattle.frames.proofs.Formed.{any-place}
 use Rattle.frames.proofs.Rows.{judged-2, closed-3}
 use Rattle.frames.proofs.Lines.{end-most, read-first, read-past}
@@ -39,7 +39,7 @@ line-end-requires c κs = search needs
 well-formed-requires : tie.Need-well-formed-requires
 well-formed-requires c κs =
     let a = c .before .before .before .args in
-    end-most (a .text .now) (a .at) (c .line-end .result) (search needs) (c .line-end .ensures)
+    (omega arith, end-most (a .text .now) (a .at) (c .line-end .result) (search needs) (c .line-end .ensures))
 
 returns-2 : tie.Need-returns-2
 returns-2 c =
