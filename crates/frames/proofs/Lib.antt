@@ -1,3 +1,7 @@
+-- Laws of the table; what the code reads of a line is what the line says; lines with the numbers that they are given.
+pub mod Fault
+pub mod Typed
+mod Cases
 pub mod Numbers
 pub mod Walks
 pub mod Bytes

@@ -83,6 +83,27 @@ module _ (test : ℕ → Bool) where
       (λ (h : test y ≡ false). (List·Memᴰ·tail (keep-in x ys (rw (keep-no y ys h) at m) .0), keep-in x ys (rw (keep-no y ys h) at m) .1))
       (true-or-false (test y))
 
+  pub keep-append : (xs ys : List ℕ) → keep test (xs ++ ys) ≡ keep test xs ++ keep test ys
+  unfolding keep
+  keep-append [] ys = refl
+  keep-append (x ∷ xs) ys =
+      ⊎-elim
+      (λ (t : test x ≡ true). rw (keep-yes x (xs ++ ys) t, keep-yes x xs t) (ap (λ (r : List ℕ). x ∷ r) (keep-append xs ys)))
+      (λ (t : test x ≡ false). rw (keep-no x (xs ++ ys) t, keep-no x xs t) (keep-append xs ys))
+      (true-or-false (test x))
+
+  pub keep-all : (xs : List ℕ) → ((x : ℕ) → x ∈ xs → test x ≡ true) → keep test xs ≡ xs
+  unfolding keep
+  keep-all [] h = refl
+  keep-all (x ∷ xs) h =
+      rw (keep-yes x xs (h x (List·Memᴰ·head refl)))
+      (ap (λ (r : List ℕ). x ∷ r) (keep-all xs (λ y m. h y (List·Memᴰ·tail m))))
+
+  pub keep-none : (xs : List ℕ) → ((x : ℕ) → x ∈ xs → test x ≡ false) → keep test xs ≡ []
+  unfolding keep
+  keep-none [] h = refl
+  keep-none (x ∷ xs) h = rw (keep-no x xs (h x (List·Memᴰ·head refl))) (keep-none xs (λ y m. h y (List·Memᴰ·tail m)))
+
 -- map and gather
 
 pub in-map : (f : ℕ → ℕ) {x : ℕ} {xs : List ℕ} → x ∈ xs → f x ∈ map f xs
@@ -158,6 +179,14 @@ unfolding total
 total-in f {x} (List·Memᴰ·head {x = y} {xs = ys} e) = omega (arith, ap f e)
 total-in f (List·Memᴰ·tail m) = let h = total-in f m in omega arith
 
+pub total-keep : (f : ℕ → ℕ) (test : ℕ → Bool) (xs : List ℕ) → total f (keep test xs) ≤ total f xs
+unfolding total keep
+total-keep f test [] = omega arith
+total-keep f test (x ∷ xs) =
+    let h = total-keep f test xs in
+    ⊎-elim (λ (t : test x ≡ true). rw t (omega arith)) (λ (t : test x ≡ false). rw t (omega arith))
+    (true-or-false (test x))
+
 -- distinct
 
 pub distinct-append : {xs ys : List ℕ} → Distinct xs → Distinct ys → ((x : ℕ) → x ∈ xs → x ∈ ys → ⊥) → Distinct (xs ++ ys)
@@ -184,3 +213,80 @@ distinct-keep test (more {x = x} {xs = xs} h d) =
     (λ (t : test x ≡ true). rw (keep-yes test x xs t) (more (λ m. h (keep-in test x xs m .0)) (distinct-keep test d)))
     (λ (t : test x ≡ false). rw (keep-no test x xs t) (distinct-keep test d))
     (true-or-false (test x))
+
+pub distinct-front : (xs ys : List ℕ) → Distinct (xs ++ ys) → Distinct xs
+distinct-front [] ys d = none
+distinct-front (x ∷ xs) ys (more h d) = more (λ m. h (Memᴰ·append-left ys m)) (distinct-front xs ys d)
+
+-- A member split out of its list.
+record Around (x : ℕ) (xs : List ℕ) : Type 0 where
+  front : List ℕ
+  back : List ℕ
+  split : xs ≡ front ++ x ∷ back
+
+around : {x : ℕ} {xs : List ℕ} → x ∈ xs → Around x xs
+around (List·Memᴰ·head {xs = ys} e) = record { front = []; back = ys; split = rw e }
+around (List·Memᴰ·tail {x = y} m) =
+    let a = around m in
+    record { front = y ∷ a .front; back = a .back; split = ap (λ (r : List ℕ). y ∷ r) (a .split) }
+
+-- A list with no number twice whose members all stand in another sums to at most what the other does.
+pub total-within :
+    (f : ℕ → ℕ) {xs : List ℕ} (ys : List ℕ) → Distinct xs → ((x : ℕ) → x ∈ xs → x ∈ ys) → total f xs ≤ total f ys
+unfolding total
+total-within f ys none h = omega arith
+total-within f ys (more {x = x} {xs = xs} out d) h =
+    let a = around (h x (List·Memᴰ·head refl)) in
+    let within = total-within f (a .front ++ a .back) d (λ y m. elsewhere a y m) in
+    omega (arith, total-append f (a .front) (a .back), total-append f (a .front) (x ∷ a .back), ap (total f) (a .split))
+  where
+    elsewhere : (a : Around x ys) (y : ℕ) → y ∈ xs → y ∈ (a .front ++ a .back)
+    elsewhere a y m =
+        ⊎-elim (λ (k : y ∈ a .front). Memᴰ·append-left (a .back) k)
+        (λ (k : y ∈ (x ∷ a .back)).
+        ⊎-elim (λ (e : y ≡ x). absurd (out (∈-subst e m))) (λ (k′ : y ∈ a .back). Memᴰ·append-right (a .front) k′)
+        (List·Memᴰ·cases-cons k))
+        (List·Memᴰ·append-cases (a .front) (rw (a .split) at (h y (List·Memᴰ·tail m))))
+
+pub total-members :
+    (f : ℕ → ℕ) {xs ys : List ℕ} → Distinct xs → Distinct ys → ((x : ℕ) → x ∈ xs → x ∈ ys) → ((x : ℕ) → x ∈ ys → x ∈ xs)
+    → total f xs ≡ total f ys
+total-members f {xs} {ys} d e h k = omega (arith, total-within f ys d h, total-within f xs e k)
+
+-- sums over a map, and of equal values
+
+pub total-map : (g f : ℕ → ℕ) (xs : List ℕ) → total g (map f xs) ≡ total (λ x. g (f x)) xs
+unfolding total
+total-map g f [] = refl
+total-map g f (x ∷ xs) = rw (total-map g f xs)
+
+pub total-same : (g h : ℕ → ℕ) (xs : List ℕ) → ((x : ℕ) → x ∈ xs → g x ≡ h x) → total g xs ≡ total h xs
+unfolding total
+total-same g h [] e = refl
+total-same g h (x ∷ xs) e =
+    omega (arith, e x (List·Memᴰ·head refl), total-same g h xs (λ y m. e y (List·Memᴰ·tail m)))
+
+-- distinct images
+
+pub distinct-map :
+    (f : ℕ → ℕ) {xs : List ℕ} → Distinct xs → ((x y : ℕ) → x ∈ xs → y ∈ xs → f x ≡ f y → x ≡ y) → Distinct (map f xs)
+distinct-map f none tells = none
+distinct-map f (more {x = x} {xs = xs} h d) tells =
+    more
+    (λ (m : f x ∈ map f xs).
+    let w = map-in f (f x) xs m in
+    h (∈-subst (sym (tells x (w .0) (List·Memᴰ·head refl) (List·Memᴰ·tail (w .1)) (w .2))) (w .1)))
+    (distinct-map f d (λ y z m m′. tells y z (List·Memᴰ·tail m) (List·Memᴰ·tail m′)))
+
+pub distinct-gather :
+    (f : ℕ → List ℕ) {xs : List ℕ} → Distinct xs → ((x : ℕ) → x ∈ xs → Distinct (f x))
+    → ((x y z : ℕ) → x ∈ xs → y ∈ xs → z ∈ f x → z ∈ f y → x ≡ y)
+    → Distinct (gather f xs)
+unfolding gather
+distinct-gather f none each tells = none
+distinct-gather f (more {x = x} {xs = xs} h d) each tells =
+    distinct-append (each x (List·Memᴰ·head refl))
+    (distinct-gather f d (λ y m. each y (List·Memᴰ·tail m)) (λ y z u m m′. tells y z u (List·Memᴰ·tail m) (List·Memᴰ·tail m′)))
+    (λ u m m′.
+    let w = gather-in f u xs m′ in
+    h (∈-subst (sym (tells x (w .0) u (List·Memᴰ·head refl) (List·Memᴰ·tail (w .1)) m (w .2))) (w .1)))

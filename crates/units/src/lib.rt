@@ -33,7 +33,7 @@ pub enum Weighed {
 }
 
 impl Cells {
-    // A gate frame has two bytes for a weight.
+    // What the two bytes of a gate frame's weight can say.
     pub const MOST_WEIGHT: u64 = 65_535;
 
     // The weight x, unless it is above the ceiling.
@@ -72,7 +72,7 @@ pub enum Delayed {
 }
 
 impl Ticks {
-    // A gate frame has two bytes for a delay.
+    // What the two bytes of a gate frame's delay can say.
     pub const MOST_DELAY: u64 = 65_535;
 
     // The delay x, unless it is above the ceiling.
@@ -118,7 +118,7 @@ pub enum Numbered {
 }
 
 impl GateNumber {
-    // A network has at most so many gates: the numbers are those below it.
+    // Document 01, "Gates 1 to 512": the gate numbers are those below it.
     pub const MOST_GATES: usize = 512;
 
     // The gate number x, unless no network has a gate of that number.
@@ -143,7 +143,7 @@ pub enum Counted {
 }
 
 impl FanInCount {
-    // A gate reads at most so many others.
+    // Document 01, "Fan-ins 0 to 8".
     pub const MOST: usize = 8;
 
     // The fan-in count x, unless it is above the ceiling.
