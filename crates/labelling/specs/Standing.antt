@@ -6,6 +6,10 @@ use lib.ListN.{length, getD, take, drop}
 use Rattle.model.specs.Ceilings.{most-gates, most-fanins}
 use Rattle.model.specs.Network.{Network, size, delay, fanins as fanins-of}
 
+-- the row has a place for each gate that a network can have
+abbrev pub Whole : List ℕ → Type 0
+Whole row = length row ≡ most-gates
+
 -- every number of the list is below k
 abbrev pub Below : ℕ → List ℕ → Type 0
 Below k xs = (i : ℕ) → i < length xs → getD xs i 0 < k
