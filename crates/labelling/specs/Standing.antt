@@ -1,8 +1,9 @@
 -- How a network stands in the rows that labelling is lent, and what the rows must keep to.
 use Prim.Native.Nat.{ℕ, suc, _+_, _*_, _≤_, _<_}
 use mathlib.Core.Path.{_≡_}
-use mathlib.Core.List.{List}
+use mathlib.Core.List.{List, [], _∷_}
 use lib.ListN.{length, getD, take, drop}
+use Rattle.model.specs.Basics.{_∈_}
 use Rattle.model.specs.Ceilings.{most-gates, most-fanins}
 use Rattle.model.specs.Network.{Network, size, delay, fanins as fanins-of}
 
@@ -32,3 +33,12 @@ pub record Timed (n : Network) (k : ℕ) (delays counts fanins : List ℕ) : Typ
   pub known : k ≤ size n
   pub delay-at : (v : ℕ) → v < k → delay n v ≡ getD delays v 0
   pub fanins-at : (v : ℕ) → v < k → fanins-of n v ≡ row-fanins counts fanins v
+
+-- "by pull, larger first": no gate of the list pulls more than one before it.
+pub data Falls (pulls : ℕ → ℕ) : List ℕ → Type 0 where
+  end : Falls pulls []
+  first : {x : ℕ} {xs : List ℕ} → ((y : ℕ) → y ∈ xs → pulls y ≤ pulls x) → Falls pulls xs → Falls pulls (x ∷ xs)
+
+-- the pull of a gate, as the row has it
+abbrev pub pull-in : List ℕ → ℕ → ℕ
+pull-in row u = getD row u 0
