@@ -2,9 +2,13 @@
 use Prim.Native.Nat.{ℕ, suc, _+_, _*_, _≤_, _<_}
 use mathlib.Core.Path.{_≡_}
 use mathlib.Core.List.{List, [], _∷_}
+use mathlib.Core.Bool.{cond}
+use lib.Dec.{ltb}
 use lib.ListN.{length, getD, take, drop}
 use Rattle.model.specs.Basics.{_∈_}
 use Rattle.model.specs.Ceilings.{most-gates, most-fanins}
+use Rattle.model.specs.Onward.{in-cone}
+use Rattle.model.specs.Label.{pull, place, ordered}
 use Rattle.model.specs.Network.{Network, size, delay, fanins as fanins-of}
 
 -- the row has a place for each gate that a network can have
@@ -13,7 +17,7 @@ Whole row = length row ≡ most-gates
 
 -- every number of the list is below k
 abbrev pub Below : ℕ → List ℕ → Type 0
-Below k xs = (i : ℕ) → i < length xs → getD xs i 0 < k
+Below k xs = (x : ℕ) → x ∈ xs → x < k
 
 -- the fan-ins of gate v, as the rows have them
 abbrev pub row-fanins : List ℕ → List ℕ → ℕ → List ℕ
@@ -42,3 +46,19 @@ pub data Falls (pulls : ℕ → ℕ) : List ℕ → Type 0 where
 -- the pull of a gate, as the row has it
 abbrev pub pull-in : List ℕ → ℕ → ℕ
 pull-in row u = getD row u 0
+
+-- the ordered row when the gate u has been looked at
+abbrev pub seated : List ℕ → List ℕ → ℕ → List ℕ → List ℕ
+seated onward pulls u row = cond (ltb 0 (getD onward u 0)) (place (pull-in pulls) u row) row
+
+-- The rows tell, of the gates below v, which of them lie in the cone of v and how much they pull.
+pub record Pulled (n : Network) (labels : List ℕ) (v : ℕ) (onward pulls : List ℕ) : Type 0 where
+  pub cone : (u : ℕ) → u < v → in-cone n u v ≡ ltb 0 (getD onward u 0)
+  pub pull-of : (u : ℕ) → u < v → pull n labels v u ≡ pull-in pulls u
+
+-- The first `count` gates of the row are those of the cone of v, v excepted, by pull.
+pub record Arranged (v : ℕ) (onward pulls row : List ℕ) (count : ℕ) : Type 0 where
+  pub whole : Whole row
+  pub few : count ≤ v
+  pub gates : Below v (take count row)
+  pub order : (n : Network) (labels : List ℕ) → Pulled n labels v onward pulls → take count row ≡ ordered n labels v
