@@ -1,3 +1,4 @@
 pub mod Lists
 pub mod Onward
 pub mod Order
+pub mod Growth

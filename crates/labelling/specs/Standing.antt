@@ -6,10 +6,10 @@ use mathlib.Core.Bool.{cond}
 use lib.Dec.{ltb}
 use lib.ListN.{length, getD, take, drop}
 use Rattle.model.specs.Basics.{_∈_}
-use Rattle.model.specs.Ceilings.{most-gates, most-fanins}
-use Rattle.model.specs.Onward.{in-cone}
+use Rattle.model.specs.Ceilings.{most-gates, most-fanins, most-delay}
+use Rattle.model.specs.Onward.{reach, in-cone}
 use Rattle.model.specs.Label.{pull, place, ordered}
-use Rattle.model.specs.Network.{Network, size, delay, fanins as fanins-of}
+use Rattle.model.specs.Network.{Network, size, weight, delay, fanins as fanins-of}
 
 -- the row has a place for each gate that a network can have
 abbrev pub Whole : List ℕ → Type 0
@@ -38,6 +38,11 @@ pub record Timed (n : Network) (k : ℕ) (delays counts fanins : List ℕ) : Typ
   pub delay-at : (v : ℕ) → v < k → delay n v ≡ getD delays v 0
   pub fanins-at : (v : ℕ) → v < k → fanins-of n v ≡ row-fanins counts fanins v
 
+-- The first k gates of the network have the weights that stand in the row, and it has this capacity.
+pub record Weighed (n : Network) (k capacity : ℕ) (weights : List ℕ) : Type 0 where
+  pub capacity-is : n .capacity ≡ capacity
+  pub weight-at : (v : ℕ) → v < k → weight n v ≡ getD weights v 0
+
 -- "by pull, larger first": no gate of the list pulls more than one before it.
 pub data Falls (pulls : ℕ → ℕ) : List ℕ → Type 0 where
   end : Falls pulls []
@@ -62,3 +67,13 @@ pub record Arranged (v : ℕ) (onward pulls row : List ℕ) (count : ℕ) : Type
   pub few : count ≤ v
   pub gates : Below v (take count row)
   pub order : (n : Network) (labels : List ℕ) → Pulled n labels v onward pulls → take count row ≡ ordered n labels v
+
+-- The row tells the onward delays to v of the gates up to v, coded as the model's row. No entry comes near 64 bits.
+pub record Reached (n : Network) (v : ℕ) (row : List ℕ) : Type 0 where
+  pub entries : take (suc v) row ≡ take (suc v) (reach n v)
+  pub small : (u : ℕ) → getD row u 0 ≤ most-delay * suc v + 1
+
+-- The cone of v, v excepted, in the two rows: how much each gate pulls, and the gates by pull.
+pub record InOrder (n : Network) (labels : List ℕ) (v : ℕ) (pulls row : List ℕ) (count : ℕ) : Type 0 where
+  pub pull-of : (u : ℕ) → u < v → pull n labels v u ≡ pull-in pulls u
+  pub order : take count row ≡ ordered n labels v
