@@ -1,5 +1,5 @@
 -- How a network stands in the rows that labelling is lent, and what the rows must keep to.
-use Prim.Native.Nat.{ℕ, suc, _+_, _*_, _≤_, _<_}
+use Prim.Native.Nat.{ℕ, suc, _+_, _*_, _≤_, _<_, _^_}
 use mathlib.Core.Path.{_≡_}
 use mathlib.Core.List.{List, [], _∷_}
 use mathlib.Core.Bool.{cond}
@@ -76,4 +76,5 @@ pub record Reached (n : Network) (v : ℕ) (row : List ℕ) : Type 0 where
 -- The cone of v, v excepted, in the two rows: how much each gate pulls, and the gates by pull.
 pub record InOrder (n : Network) (labels : List ℕ) (v : ℕ) (pulls row : List ℕ) (count : ℕ) : Type 0 where
   pub pull-of : (u : ℕ) → u < v → pull n labels v u ≡ pull-in pulls u
+  pub small : (u : ℕ) → u < v → pull-in pulls u < 2 ^ 33
   pub order : take count row ≡ ordered n labels v
