@@ -2,3 +2,4 @@ pub mod Lists
 pub mod Onward
 pub mod Order
 pub mod Growth
+pub mod Label

@@ -1,10 +1,11 @@
 -- Laws of lists.
-use Prim.Native.Nat.{ℕ, zero, suc, _<_}
-use mathlib.Core.Path.{_≡_, refl}
+use Prim.Native.Nat.{ℕ, zero, suc, _≤_, _<_}
+use mathlib.Core.Path.{_≡_, refl, sym}
 use mathlib.Core.List.{List, [], _∷_, _++_, head?, List·Memᴰ·head, List·Memᴰ·tail, Memᴰ·append-left, Memᴰ·append-right}
 use mathlib.Core.Option.{none, some}
 use native.Mathlib.Omega.{arith}
 use lib.ListN.{length, getD, take, drop, take-append-drop}
+use lib.Seq.{length-take-le, getD-take}
 use Rattle.model.specs.Basics.{_∈_}
 
 pub getD-in : (xs : List ℕ) (i : ℕ) → i < length xs → getD xs i 0 ∈ xs
@@ -21,3 +22,8 @@ drop-in i xs x m = rw (take-append-drop i xs) at (Memᴰ·append-right (take i x
 pub head-in : (xs : List ℕ) (x : ℕ) → head? xs ≡ some x → x ∈ xs
 head-in [] x e = absurd (let z : _≡_ {A = ℕ} 0 1 = cc in omega arith)
 head-in (y ∷ ys) x e = let q : x ≡ y = cc in List·Memᴰ·head q
+
+-- a number of the front of a row
+pub taken-in : (row : List ℕ) (count i : ℕ) → count ≤ length row → i < count → getD row i 0 ∈ take count row
+taken-in row count i h l =
+    rw (sym (getD-take count row i 0 l)) (getD-in (take count row) i (omega (arith, length-take-le count row h)))
