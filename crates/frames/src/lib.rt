@@ -1,8 +1,287 @@
-// One line of a network's text: hexadecimal read into a frame, or the number of its refusal.
+// One line of a network's text: hexadecimal read into a frame, or the number of its refusal with its line.
+//
+// `read_line` finds the line that begins at a place of the text and answers by the table of refusal numbers: 2 for the
+// line's form, then by what stood before it 3 for its type, 4 for its length, 5 and 6 for a gate, 7 and 8 for the end.
+// `fan_in` reads one fan-in of a gate line. Numbers are read with digits that are none counting 16, so that no number
+// has to be refused before its line is.
+ghost use mathlib.Core.Path.{_≡_};
+ghost use mathlib.Core.Bool.{true, false, not};
+ghost use Prim.Native.Nat.{_+_, _*_, _^_, _≤_, _<_};
+ghost use lib.ListN.{length, drop};
+ghost use lib.Seq.{slice};
+ghost use Rattle.frames.specs.Text as text-of;
+ghost use Rattle.frames.specs.Table.{malformed, kind, rising-from};
+ghost use Rattle.frames.specs.Frames.{digit-at, byte-from, word-from, long-from, fan-in-from, line-from, line-length, judged, line-read};
+ghost use Rattle.frames.specs.declared.Place.the-variants.{Opening, AfterGates};
+use units::Cells;
+use units::Counted;
+use units::FanInCount;
+use units::GateNumber;
+use units::Numbered;
+use units::Ticks;
 
 // What stood before a line: nothing; the header and so many gates; the end frame.
 pub enum Place {
     Opening,
     AfterGates(usize),
     Closed,
+}
+
+// What reading a line gives: a frame and where the next line begins, a refusal, or that the text ends here.
+pub enum LineRead {
+    Header {
+        capacity: Cells,
+        hop: Ticks,
+        next: usize,
+    },
+    Gate {
+        weight: Cells,
+        delay: Ticks,
+        count: FanInCount,
+        next: usize,
+    },
+    End {
+        next: usize,
+    },
+    Refused {
+        number: u8,
+        line: usize,
+    },
+    Nothing,
+}
+
+// What a byte counts for as a digit, 16 where it is none.
+fn digit(b: u8) -> u8
+    ensures { λ r. ⌜ r ≡ text-of.digit b ⌝ }
+{
+    match b {
+        b'0'..=b'9' => b - b'0',
+        // A counts ten.
+        b'A'..=b'F' => b - b'A' + 10,
+        _ => 16,
+    }
+}
+
+// The digit at a place of the text; a place past its end holds none.
+fn digit_at(text: &[u8], k: usize) -> u64
+    ensures { λ r. ⌜ r ≡ digit-at (now (text .entry)) k ⌝ }
+{
+    if k < text.len() {
+        digit(text[k]) as u64
+    } else {
+        16
+    }
+}
+
+// The byte that two digits spell.
+fn byte_at(text: &[u8], k: usize) -> u64
+    requires { ⌜ k + 2 < 2 ^ 64 ⌝ }
+    ensures { λ r. ⌜ r ≡ byte-from (now (text .entry)) k ⌝ }
+{
+    16 * digit_at(text, k) + digit_at(text, k + 1)
+}
+
+// The number that two bytes spell.
+fn word_at(text: &[u8], k: usize) -> u64
+    requires { ⌜ k + 4 < 2 ^ 64 ⌝ }
+    ensures { λ r. ⌜ r ≡ word-from (now (text .entry)) k ⌝ }
+{
+    256 * byte_at(text, k) + byte_at(text, k + 2)
+}
+
+// The number that four bytes spell.
+fn long_at(text: &[u8], k: usize) -> u64
+    requires { ⌜ k + 8 < 2 ^ 64 ⌝ }
+    ensures { λ r. ⌜ r ≡ long-from (now (text .entry)) k ⌝ }
+{
+    65_536 * word_at(text, k) + word_at(text, k + 4)
+}
+
+// The first fan-in of a gate line stands behind twelve digits: type, weight, delay and fan-in count.
+const BEFORE_FAN_INS: usize = 12;
+
+// Four digits that are none, each counting 16.
+const NO_FAN_IN: u32 = 69_904;
+
+// The i-th fan-in of the gate line that begins at `at`: the number of its four digits, missing ones counting 16.
+pub fn fan_in(text: &[u8], at: usize, i: usize) -> u32
+    ensures { λ r. ⌜ r ≡ fan-in-from (now (text .entry)) at i ⌝ }
+{
+    let len = text.len();
+    if at < len && i < (len - at) / 4 {
+        return word_at(text, at + BEFORE_FAN_INS + 4 * i) as u32;
+    }
+    NO_FAN_IN
+}
+
+// The line feed, 0A.
+const LINE_FEED: u8 = 10;
+
+// Where the line ends that begins at `at`: at its line feed, or at the text's end where it has none.
+fn line_end(text: &[u8], at: usize) -> usize
+    requires { ⌜ at ≤ length (now text) ⌝ }
+    ensures { λ r. ⌜ r ≡ at + line-length (drop at (now (text .entry))) ⌝ }
+{
+    let mut i = at;
+    while i < text.len() && text[i] != LINE_FEED {
+        i += 1;
+    }
+    i
+}
+
+// Whether every byte from `at` up to `end` is a digit.
+fn all_digits(text: &[u8], at: usize, end: usize) -> bool
+    requires { ⌜ end ≤ length (now text) ⌝ }
+    ensures { λ r. ⌜ r ≡ text-of.all-digits (slice at end (now (text .entry))) ⌝ }
+{
+    let mut i = at;
+    while i < end {
+        if digit(text[i]) == 16 {
+            return false;
+        }
+        i += 1;
+    }
+    true
+}
+
+// Whether the line from `at` up to `end` is of the right form: not empty, ended, an even number of digits and nothing
+// else. Refusal 2 is given where it is not.
+fn well_formed(text: &[u8], at: usize, end: usize) -> bool
+    requires { ⌜ end ≤ length (now text) ⌝ }
+    ensures { λ r. ⌜ r ≡ not (malformed Opening (line-from (now (text .entry)) at end)) ⌝ }
+{
+    if end <= at {
+        return false;
+    }
+    if text.len() <= end {
+        return false;
+    }
+    let odd = (end - at) % 2;
+    if odd != 0 {
+        return false;
+    }
+    all_digits(text, at, end)
+}
+
+// The types of a network's frames.
+const HEADER_TYPE: u64 = 0x01;
+
+const GATE_TYPE: u64 = 0x02;
+
+const END_TYPE: u64 = 0x0F;
+
+// A well-formed line that opens the text: a header frame has seven bytes, the type, M (4) and D (2).
+fn read_header(text: &[u8], at: usize, end: usize, line: usize) -> LineRead
+    requires { ⌜ malformed Opening (line-from (now text) at end) ≡ false ⌝ }
+    ensures { λ r. ⌜ r ≡ judged at Opening line (line-from (now (text .entry)) at end) ⌝ }
+{
+    if byte_at(text, at) != HEADER_TYPE {
+        return LineRead::Refused { number: 3, line };
+    }
+    if end - at != 14 {
+        return LineRead::Refused { number: 4, line };
+    }
+    LineRead::Header {
+        capacity: Cells(long_at(text, at + 2)),
+        hop: Ticks(word_at(text, at + 10)),
+        next: end + 1,
+    }
+}
+
+// Whether the numbers of four digits from `from` up to `end` rise strictly and are all below a gate's own number.
+fn rising(text: &[u8], from: usize, end: usize, gate: GateNumber) -> bool
+    requires { ⌜ (from ≤ end) × (end ≤ length (now text)) ⌝ }
+    ensures { λ r. ⌜ r ≡ rising-from 0 (gate .0) (text-of.words (text-of.bytes (slice from end (now (text .entry))))) ⌝ }
+{
+    let bound = gate.0 as u64;
+    let mut least = 0;
+    let mut k = from;
+    while 4 <= end - k {
+        let x = word_at(text, k);
+        if x < least || bound <= x {
+            return false;
+        }
+        least = x + 1;
+        k += 4;
+    }
+    true
+}
+
+// A well-formed line of type 02, after a header and so many gates: 4 by its length and count, 5 by its number, 6 by its
+// fan-ins.
+fn read_gate(text: &[u8], at: usize, end: usize, gates: usize, line: usize) -> LineRead
+    requires { ⌜ (malformed Opening (line-from (now text) at end) ≡ false) × (byte-from (now text) at ≡ 0x02) ⌝ }
+    ensures { λ r. ⌜ r ≡ judged at (AfterGates gates) line (line-from (now (text .entry)) at end) ⌝ }
+{
+    let fan_ins = byte_at(text, at + 10) as usize;
+    let Counted::Made(count) = FanInCount::new(fan_ins) else {
+        return LineRead::Refused { number: 4, line };
+    };
+    if end - at != BEFORE_FAN_INS + 4 * fan_ins {
+        return LineRead::Refused { number: 4, line };
+    }
+    let Numbered::Made(gate) = GateNumber::new(gates) else {
+        return LineRead::Refused { number: 5, line };
+    };
+    if !rising(text, at + BEFORE_FAN_INS, end, gate) {
+        return LineRead::Refused { number: 6, line };
+    }
+    LineRead::Gate {
+        weight: Cells(word_at(text, at + 2)),
+        delay: Ticks(word_at(text, at + 6)),
+        count,
+        next: end + 1,
+    }
+}
+
+// A well-formed line of type 0F, after a header and so many gates: an end frame has three bytes, the type and the
+// number of gates (2).
+fn read_end(text: &[u8], at: usize, end: usize, gates: usize, line: usize) -> LineRead
+    requires { ⌜ (malformed Opening (line-from (now text) at end) ≡ false) × (byte-from (now text) at ≡ 0x0F) ⌝ }
+    ensures { λ r. ⌜ r ≡ judged at (AfterGates gates) line (line-from (now (text .entry)) at end) ⌝ }
+{
+    if end - at != 6 {
+        return LineRead::Refused { number: 4, line };
+    }
+    if word_at(text, at + 2) != gates as u64 {
+        return LineRead::Refused { number: 7, line };
+    }
+    if gates == 0 {
+        return LineRead::Refused { number: 8, line };
+    }
+    LineRead::End { next: end + 1 }
+}
+
+// A well-formed line after a header and so many gates: a gate or the end.
+fn read_after_header(text: &[u8], at: usize, end: usize, gates: usize, line: usize) -> LineRead
+    requires { ⌜ malformed Opening (line-from (now text) at end) ≡ false ⌝ }
+    ensures { λ r. ⌜ r ≡ judged at (AfterGates gates) line (line-from (now (text .entry)) at end) ⌝ }
+{
+    let kind = byte_at(text, at);
+    if kind == GATE_TYPE {
+        return read_gate(text, at, end, gates, line);
+    }
+    if kind == END_TYPE {
+        return read_end(text, at, end, gates, line);
+    }
+    LineRead::Refused { number: 3, line }
+}
+
+// The line that begins at `at`, by what stood before it: its frame and where the next line begins, or the lowest number
+// of the table that it gives, with its line. A place past the text's end counts as its end.
+pub fn read_line(text: &[u8], at: usize, place: Place, line: usize) -> LineRead
+    ensures { λ r. ⌜ r ≡ line-read (now (text .entry)) at place line ⌝ }
+{
+    if text.len() <= at {
+        return LineRead::Nothing;
+    }
+    let end = line_end(text, at);
+    if !well_formed(text, at, end) {
+        return LineRead::Refused { number: 2, line };
+    }
+    match place {
+        Place::Opening => read_header(text, at, end, line),
+        Place::AfterGates(gates) => read_after_header(text, at, end, gates, line),
+        Place::Closed => LineRead::Refused { number: 3, line },
+    }
 }

@@ -15,6 +15,7 @@ use Rattle.model.specs.Basics.{_∈_, Distinct, none as no-gate, more, k
 use Rattle.model.specs.Network.{Network, weight, input, position, gate-at}
 use Rattle.model.specs.Onward.{in-cone}
 use Rattle.model.specs.Label.{pull, Before, before, ordered, Growth, joins, grow, growth, joined, stop, cluster}
+use Rattle.model.specs.Growth.{cone-gates, not-after, Grows}
 use Rattle.model.proofs.Lists.{true-or-false, same-or-not, ∈-subst, keep-in, in-keep, keep-append, keep-all, keep-none, in-map, map-in, in-upto, upto-in, total-append, total-in, total-keep, total-members, distinct-keep, distinct-upto, distinct-front, distinct-map}
 use Rattle.model.proofs.Networks.{gate-at-position, position-gate-at}
 use Rattle.model.proofs.Order.{Sorted, before-asymmetric, before-irreflexive, before-pull, true-before, before-false, before-total, ordered-in, in-ordered, ordered-sorted, ordered-distinct, sorted-split, sorted-back, sorted-first}
@@ -72,31 +73,6 @@ head-some (x ∷ xs) s e = (xs, let q : x ≡ s = cc in rw q)
 head-none : (row : List ℕ) → head? row ≡ none → row ≡ []
 head-none [] e = refl
 head-none (x ∷ xs) e = absurd (let z : _≡_ {A = ℕ} 0 1 = cc in omega arith)
-
--- "Each u in the cone, v excepted": the cone's gates below the root.
-unfoldable pub cone-gates : Network → ℕ → List ℕ
-cone-gates n v = keep (λ u. in-cone n u v) (map (gate-at n) (upto (position n v)))
-
--- the gates of the cone not after u in the order, u itself among them
-unfoldable pub not-after : Network → List ℕ → ℕ → ℕ → List ℕ
-not-after n l v u = keep (λ x. not (before n l v u x)) (cone-gates n v)
-
--- What growth comes to, with no walk in it.
-pub record Grows (n : Network) (l : List ℕ) (v : ℕ) : Type 0 where
-  -- a gate of the cone is a member exactly when the root's weight and those of all gates of the cone not after it sum to
-  -- at most M
-  pub member :
-      (u : ℕ) → u ∈ cone-gates n v
-      → (u ∈ joined n l v) ↔ (weight n v + total (weight n) (not-after n l v u) ≤ n .capacity)
-  -- nothing but gates of the cone are members
-  pub within : (u : ℕ) → u ∈ joined n l v → u ∈ cone-gates n v
-  -- the stopping gate is the first in the order that is no member
-  pub stops :
-      (s : ℕ)
-      → (stop n l v ≡ some s)
-      ↔ ((s ∈ cone-gates n v) × (s ∈ joined n l v → ⊥) × ((u : ℕ) → u ∈ cone-gates n v → Before n l v u s → u ∈ joined n l v))
-  -- there is none exactly when the whole cone fits
-  pub whole : weight n v ≤ n .capacity → (stop n l v ≡ none) ↔ (weight n v + total (weight n) (cone-gates n v) ≤ n .capacity)
 
 module _ (n : Network) (v : ℕ) where
   pub in-cone-gates : (u : ℕ) → in-cone n u v ≡ true → position n u < position n v → u ∈ cone-gates n v

@@ -12,4 +12,8 @@ pub mod CopyDelay
 pub mod Clusterings
 pub mod LowerBound
 pub mod UpperBound
+pub mod Drawing
+pub mod Best
+pub mod Ceiling
 pub mod Examples
+pub mod Slips

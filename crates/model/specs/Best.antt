@@ -15,7 +15,7 @@ pub record Best (n : Network) : Type 0 where
   -- "The drawn clustering is legal"
   pub legal : (SomeHeavy n → ⊥) → Legal n (drawing n)
   -- "the root of each drawn cluster has exactly its label as delay"
-  pub exact : (r : ℕ) → r ∈ drawn n (labels n) → Delay n (drawing n) (name n r r) (label n r)
+  pub exact : (SomeHeavy n → ⊥) → (r : ℕ) → r ∈ drawn n (labels n) → Delay n (drawing n) (name n r r) (label n r)
   -- "in no legal clustering, with as many copies as anyone likes, has any copy a smaller delay than its gate's label"
   pub unbeaten : (k : Clustering) → Legal n k → (c d : ℕ) → c ∈ k .copies → Delay n k c d → label n (k .gate-of c) ≤ d
   -- "refused for a heavy gate exactly when no legal clustering exists"

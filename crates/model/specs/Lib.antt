@@ -1,9 +1,10 @@
--- Document 01 without code, page by page in its own order.
+-- Document 01 without code: its words, legal clusterings, labelling, selection and wiring, and what is proved of them.
 pub mod Basics
 pub mod Ceilings
 pub mod Network
 pub mod Onward
-pub mod Label
 pub mod Clustering
+pub mod Label
+pub mod Growth
 pub mod Drawing
 pub mod Best

@@ -1,1 +1,18 @@
-pub mod Examples
+-- Spelling and reading undo each other; what an accepted text is; what the table says of a text; texts with their answers.
+pub mod Tests
+pub mod Digits
+pub mod Lines
+pub mod Frames
+pub mod Faultless
+pub mod Accepted
+pub mod AcceptedNetwork
+pub mod Rows
+pub mod Spelled
+pub mod RowsCheck
+pub mod RoundTrip
+pub mod Heavy
+pub mod Exactly
+pub mod Table
+pub mod Room
+pub mod GateLines
+mod Cases

@@ -1,4 +1,6 @@
 -- Document 01, "Frames" and "Refusal numbers", for a whole text; rows, and the text that they spell.
 pub mod Reading
+pub mod Says
 pub mod Rows
 pub mod Spelling
+pub mod Shown

@@ -5,7 +5,7 @@ use mathlib.Core.List.{List, [], _∷_, _++_, map}
 use lib.ListN.{length, getD}
 use lib.Dec.{ltb}
 use Rattle.model.specs.Basics.{gather, upto}
-use Rattle.model.specs.Network.{Gate, Network}
+use Rattle.model.specs.Network.{Gate, Network, size}
 use Rattle.frames.specs.Text.{line-feed}
 use Rattle.network.specs.Reading.{Reading, refused, reading}
 use Rattle.network.specs.Rows.{Rows, row-gate, too-short}
@@ -62,6 +62,18 @@ join (l ∷ ls) = l ++ join ls
 unfoldable pub spell : ℕ → ℕ → ℕ → Rows → List ℕ
 unfolding join row-lines
 spell capacity hop gates rows = join (row-lines capacity hop gates rows)
+
+-- the lines of a network, and the text that it spells
+unfoldable pub network-lines : Network → List (List ℕ)
+unfolding spell-line header-bytes gate-bytes end-bytes size
+network-lines n =
+    spell-line (header-bytes (n .capacity) (n .hop))
+    ∷ map (λ g. spell-line (gate-bytes g (length (g .fanins)))) (n .gates)
+    ++ (spell-line (end-bytes (size n)) ∷ [])
+
+unfoldable pub spell-network : Network → List ℕ
+unfolding join network-lines
+spell-network n = join (network-lines n)
 
 -- "A network handed over as rows answers as the text those rows spell." Rows too short for the gates that they claim
 -- spell nothing: 10.

@@ -1,0 +1,3 @@
+-- Document 01, "Frames": what a text answers, line by line.
+pub mod Result
+pub mod Demands

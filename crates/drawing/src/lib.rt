@@ -1,0 +1,1 @@
+// Selection, and the result a line at a time.

@@ -1,0 +1,35 @@
+-- After the header: a line that is no gate and no end is refused.
+use Prim.Native.Nat.{ℕ}
+use mathlib.Core.Path.{_≡_, refl, sym, ap₂, _∙_}
+use mathlib.Core.Bool.{false, not, _||_}
+use mathlib.Core.List.{List}
+use lib.Dec.{eqb}
+use borrow.Author.Tests.{ne-eqb}
+use Rattle.frames.specs.declared.Place.the-variants.{Opening, AfterGates}
+use Rattle.frames.specs.declared.LineRead.the-variants.{Refused}
+use Rattle.frames.specs.Text.{Line}
+use Rattle.frames.specs.Table.{malformed, misplaced, kind}
+use Rattle.frames.specs.Frames.{line-from, byte-from, judged}
+use Rattle.frames.proofs.Formed.{Formed, formed, any-place}
+use Rattle.frames.proofs.Rows.{judged-3}
+use Rattle.frames.proofs.OfLine.{kind-is}
+
+pub gates-type : (g : ℕ) (l : Line) → misplaced (AfterGates g) l ≡ not (eqb (kind l) 0x02 || eqb (kind l) 0x0F)
+unfolding misplaced
+gates-type g l = refl
+
+module _ (text : List ℕ) (at end gates line : ℕ) (formed-line : malformed Opening (line-from text at end) ≡ false) where
+  two : malformed (AfterGates gates) (line-from text at end) ≡ false
+  two = any-place (AfterGates gates) Opening (line-from text at end) ∙ formed-line
+
+  form : Formed text at end
+  form = formed Opening text at end formed-line
+
+  pub gates-3 : (byte-from text at ≡ 0x02 → ⊥) → (byte-from text at ≡ 0x0F → ⊥)
+      → Refused 3 line ≡ judged at (AfterGates gates) line (line-from text at end)
+  gates-3 not-gate not-end =
+      let l = line-from text at end in
+      sym
+      (judged-3 at (AfterGates gates) line l two
+      (gates-type gates l
+      ∙ ap₂ (λ x y. not (x || y)) (ne-eqb (kind l) 0x02 (λ e. not-gate (sym (kind-is form) ∙ e))) (ne-eqb (kind l) 0x0F (λ e. not-end (sym (kind-is form) ∙ e)))))

@@ -1,0 +1,81 @@
+-- Lines that go wrong easily, each where it stands, with the number that the table gives: one table, one statement.
+use Prim.Native.Nat.{ℕ}
+use Prim.Native.String.{String}
+use mathlib.Core.Path.{_≡_, refl}
+use mathlib.Core.Bool.{true, false}
+use mathlib.Core.List.{List, [], _∷_, map}
+use mathlib.Core.Option.{Option, none, some}
+use Rattle.frames.specs.declared.Place.{Place}
+use Rattle.frames.specs.declared.Place.the-variants.{Opening, AfterGates, Closed}
+use Rattle.frames.specs.Text.{Line}
+use Rattle.frames.specs.Table.{fault}
+use Rattle.frames.proofs.Typed.{typed}
+
+-- a line, its place, its number if it has one
+infix 68 _at_gives_
+data Case : Type 0 where
+  _at_gives_ : Line → Place → Option ℕ → Case
+
+found : Case → Option ℕ
+unfolding fault
+found (l at p gives k) = fault p l
+
+given : Case → Option ℕ
+given (l at p gives k) = k
+
+ended : String → Line
+unfolding typed
+ended s = record { digits = typed s; ended = true }
+
+unended : String → Line
+unfolding typed
+unended s = record { digits = typed s; ended = false }
+
+cases : List Case
+unfolding ended unended
+cases =
+    -- without fault
+    ended "01FFFFFFFFFFFF" at Opening gives none
+    ∷ ended "02FFFFFFFF00" at AfterGates 0 gives none
+    ∷ ended "02000000000200010002" at AfterGates 3 gives none
+    -- 2: empty, a lower-case digit, 0D before 0A, an odd number of digits, not ended; before 3 to 8, after 0F too
+    ∷ ended "" at Opening gives some 2
+    ∷ ended "01000000000a00" at Opening gives some 2
+    ∷ ended "01000000000000\r" at Opening gives some 2
+    ∷ ended "0100000000000" at Opening gives some 2
+    ∷ unended "01000000000000" at Opening gives some 2
+    ∷ unended "0F" at AfterGates 0 gives some 2
+    ∷ ended "0G" at Closed gives some 2
+    -- 3: an unknown type, a gate or an end first, a second header, any line after 0F; before 4
+    ∷ ended "7E" at AfterGates 1 gives some 3
+    ∷ ended "020000000000" at Opening gives some 3
+    ∷ ended "0F" at Opening gives some 3
+    ∷ ended "01000000000000" at AfterGates 0 gives some 3
+    ∷ ended "0F0001" at Closed gives some 3
+    -- 4: lengths, counts 9 and 255; before 5 to 8
+    ∷ ended "010000000000" at Opening gives some 4
+    ∷ ended "0100000000000000" at Opening gives some 4
+    ∷ ended "0F00" at AfterGates 0 gives some 4
+    ∷ ended "020000000001" at AfterGates 512 gives some 4
+    ∷ ended "0200000000FF" at AfterGates 1 gives some 4
+    ∷ ended "020000000009000000010002000300040005000600070008" at AfterGates 9 gives some 4
+    -- 5: a 513th gate; before 6
+    ∷ ended "020000000000" at AfterGates 511 gives none
+    ∷ ended "020000000000" at AfterGates 512 gives some 5
+    ∷ ended "0200000000010200" at AfterGates 512 gives some 5
+    -- 6: a fan-in of its own number, falling, twice
+    ∷ ended "0200000000010000" at AfterGates 0 gives some 6
+    ∷ ended "0200000000010003" at AfterGates 3 gives some 6
+    ∷ ended "02000000000200010000" at AfterGates 3 gives some 6
+    ∷ ended "02000000000200010001" at AfterGates 3 gives some 6
+    -- 7: another count; before 8
+    ∷ ended "0F0002" at AfterGates 3 gives some 7
+    ∷ ended "0F0001" at AfterGates 0 gives some 7
+    -- 8: no gates
+    ∷ ended "0F0000" at AfterGates 0 gives some 8
+    ∷ ended "0F0200" at AfterGates 512 gives none
+    ∷ []
+
+cases-hold : map found cases ≡ map given cases
+unfolding cases found given
+cases-hold = refl

@@ -1,0 +1,17 @@
+-- Laws of the table; what the code reads of a line is what the line says; lines with the numbers that they are given.
+pub mod Fault
+pub mod Typed
+mod Cases
+pub mod Numbers
+pub mod Walks
+pub mod Bytes
+pub mod Rows
+pub mod Formed
+pub mod OfLine
+pub mod Header
+pub mod AfterHeader
+pub mod Gate
+pub mod End
+pub mod Lines
+pub mod Unique
+pub mod FanIns

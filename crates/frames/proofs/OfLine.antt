@@ -1,0 +1,76 @@
+-- What the table reads in a line, as the code reads it in the text.
+use Prim.Native.Nat.{ℕ, suc, _+_, _*_, _-_, _/_, _%_, _≤_, _<_}
+use mathlib.Core.Path.{_≡_, refl, sym, ap, ap₂, _∙_}
+use mathlib.Core.Bool.{Bool, true, false}
+use mathlib.Core.List.{List, [], _∷_}
+use native.Mathlib.Omega.{arith}
+use lib.ListN.{length, getD, drop, take, length-drop}
+use lib.Seq.{slice, length-slice, getD-drop, drop-drop}
+use Rattle.frames.specs.Text.{Line, bytes, word-at, words}
+use Rattle.frames.specs.Table.{kind, frame-length, header-capacity, header-hop, gate-count, gate-fanins, gate-of, end-count}
+use Rattle.frames.specs.Frames.{line-from, byte-from, word-from, long-from, fan-in-from}
+use Rattle.frames.proofs.Formed.{Formed}
+use Rattle.frames.proofs.Bytes.{length-bytes, drop-bytes, length-words, line-byte, line-word, line-long, word-here}
+
+-- The fan-ins of a gate line are the words behind its first twelve digits.
+pub fanins-are : (text : List ℕ) (at end : ℕ) → gate-fanins (line-from text at end) ≡ words (bytes (slice (at + 12) end text))
+unfolding gate-fanins
+fanins-are text at end =
+    ap words (drop-bytes (slice at end text) 6 12 refl ∙ ap bytes (drop-drop 12 at (take end text)))
+
+module _ {text : List ℕ} {at end : ℕ} (f : Formed text at end) where
+  fits : end ≤ length text
+  fits = omega arith
+
+  pub kind-is : kind (line-from text at end) ≡ byte-from text at
+  unfolding kind
+  kind-is = line-byte text at end fits 0 at (omega arith) (omega arith)
+
+  pub length-is : frame-length (line-from text at end) ≡ (end - at) / 2
+  unfolding frame-length
+  length-is = length-bytes (slice at end text) ∙ ap (λ n. n / 2) (length-slice at end text fits)
+
+  pub next-is : at + length (slice at end text) + 1 ≡ end + 1
+  next-is = omega (arith, length-slice at end text fits)
+
+  pub capacity-is : end - at ≡ 14 → header-capacity (line-from text at end) ≡ long-from text (at + 2)
+  unfolding header-capacity
+  capacity-is e = line-long text at end fits 1 (at + 2) (omega arith) (omega arith)
+
+  pub hop-is : end - at ≡ 14 → header-hop (line-from text at end) ≡ word-from text (at + 10)
+  unfolding header-hop
+  hop-is e = line-word text at end fits 5 (at + 10) (omega arith) (omega arith)
+
+  pub end-count-is : end - at ≡ 6 → end-count (line-from text at end) ≡ word-from text (at + 2)
+  unfolding end-count
+  end-count-is e = line-word text at end fits 1 (at + 2) (omega arith) (omega arith)
+
+  pub count-is : 12 ≤ end - at → gate-count (line-from text at end) ≡ byte-from text (at + 10)
+  unfolding gate-count
+  count-is h = line-byte text at end fits 5 (at + 10) (omega arith) (omega arith)
+
+  pub weight-is : 12 ≤ end - at → gate-of (line-from text at end) .weight ≡ word-from text (at + 2)
+  unfolding gate-of
+  weight-is h = line-word text at end fits 1 (at + 2) (omega arith) (omega arith)
+
+  pub delay-is : 12 ≤ end - at → gate-of (line-from text at end) .delay ≡ word-from text (at + 6)
+  unfolding gate-of
+  delay-is h = line-word text at end fits 3 (at + 6) (omega arith) (omega arith)
+
+  module _ (count : ℕ) (long : end - at ≡ 12 + 4 * count) where
+    bytes-long : length (bytes (slice at end text)) ≡ 6 + 2 * count
+    bytes-long = omega (arith, length-bytes (slice at end text), length-slice at end text fits)
+
+    pub fanins-length : length (gate-fanins (line-from text at end)) ≡ count
+    unfolding gate-fanins
+    fanins-length =
+        let bs = bytes (slice at end text) in
+        omega (arith, length-words (drop 6 bs), length-drop 6 bs, bytes-long)
+
+    pub fanin-is : (i : ℕ) → i < count → getD (gate-fanins (line-from text at end)) i 0 ≡ fan-in-from text at i
+    unfolding gate-fanins fan-in-from word-at
+    fanin-is i h =
+        let bs = bytes (slice at end text) in
+        word-here (drop 6 bs) i (2 * i) refl (omega (arith, length-drop 6 bs, bytes-long))
+        ∙ ap₂ (λ x y. 256 * x + y) (getD-drop 6 bs (2 * i) 0) (getD-drop 6 bs (suc (2 * i)) 0 ∙ ap (λ n. getD bs n 0) (omega arith))
+        ∙ line-word text at end fits (6 + 2 * i) (at + 12 + 4 * i) (omega arith) (omega arith)

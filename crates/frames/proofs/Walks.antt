@@ -1,0 +1,77 @@
+-- What a walk along the text leaves to do: a line's length, and whether digits are left to test.
+use Prim.Native.Nat.{ℕ, suc, _+_, _-_, _≤_, _<_}
+use mathlib.Core.Path.{_≡_, refl, ap, _∙_}
+use mathlib.Core.Bool.{Bool, true, false, cond, _&&_, and-false}
+use mathlib.Core.List.{List, [], _∷_}
+use native.Mathlib.Numerals.{add-one, towards-suc}
+use native.Mathlib.Omega.{arith}
+use lib.ListN.{length, getD, drop, take, drop-of-length-le, length-take}
+use lib.Seq.{drop-cons, slice, slice-cons, length-slice}
+use lib.Dec.{ltb, eqb}
+use borrow.Author.Tests.{eq-eqb, ne-eqb, lt-ltb, le-ltb, le-leb, lt-leb}
+use Rattle.frames.specs.Text.{line-feed, digit, all-digits, bytes, words}
+use Rattle.frames.specs.Table.{rising-from}
+use Rattle.frames.specs.Frames.{line-length, word-from}
+use Rattle.frames.proofs.Bytes.{length-bytes, length-words}
+
+pub length-past : (text : List ℕ) (i : ℕ) → length text ≤ i → line-length (drop i text) ≡ 0
+unfolding line-length
+length-past text i h = rw (drop-of-length-le text {i = i} h)
+
+pub length-feed : (text : List ℕ) (i : ℕ) → i < length text → getD text i 0 ≡ line-feed → line-length (drop i text) ≡ 0
+unfolding line-length
+length-feed text i h e = rw (drop-cons text i 0 h) (simp (eq-eqb (getD text i 0) line-feed e))
+
+pub length-more : (text : List ℕ) (i : ℕ) → i < length text → (getD text i 0 ≡ line-feed → ⊥)
+    → line-length (drop i text) ≡ suc (line-length (drop (i + 1) text))
+unfolding line-length
+length-more text i h e = rw (drop-cons text i 0 h, add-one) (simp (ne-eqb (getD text i 0) line-feed e))
+
+pub digits-none : (text : List ℕ) (i end : ℕ) → end ≤ i → all-digits (slice i end text) ≡ true
+unfolding all-digits
+digits-none text i end h = rw (drop-of-length-le (take end text) {i = i} (simp length-take (omega arith)))
+
+pub digits-more : (text : List ℕ) (i end : ℕ) → i < end → end ≤ length text → digit (getD text i 0) < 16
+    → all-digits (slice i end text) ≡ all-digits (slice (i + 1) end text)
+unfolding all-digits
+digits-more text i end h k d = rw (slice-cons i end text 0 h k, add-one) (simp (lt-ltb (digit (getD text i 0)) 16 d))
+
+pub digits-bad : (text : List ℕ) (i end : ℕ) → i < end → end ≤ length text → digit (getD text i 0) ≡ 16
+    → all-digits (slice i end text) ≡ false
+unfolding all-digits
+digits-bad text i end h k d = rw (slice-cons i end text 0 h k) (simp (le-ltb (digit (getD text i 0)) 16 (omega arith)))
+
+pub words-none : (text : List ℕ) (k end : ℕ) → end < k + 4 → end ≤ length text → words (bytes (slice k end text)) ≡ []
+words-none text k end h fits =
+    empty (words (bytes (slice k end text)))
+    (omega (arith, length-words (bytes (slice k end text)), length-bytes (slice k end text), length-slice k end text fits))
+  where
+    empty : (xs : List ℕ) → length xs ≡ 0 → xs ≡ []
+    empty [] e = refl
+    empty (x ∷ xs) e = absurd (omega arith)
+
+pub words-more : (text : List ℕ) (k end : ℕ) → k + 4 ≤ end → end ≤ length text
+    → words (bytes (slice k end text)) ≡ word-from text k ∷ words (bytes (slice (k + 4) end text))
+unfolding words bytes word-from
+words-more text k end h fits =
+    rw
+    (slice-cons k end text 0 (omega arith) fits, slice-cons (suc k) end text 0 (omega arith) fits, slice-cons (suc (suc k)) end text 0 (omega arith) fits, slice-cons (suc (suc (suc k))) end text 0 (omega arith) fits)
+    (simp towards-suc)
+
+-- The fan-ins left to test: none, or one more that is in its place, too low, or too high.
+pub rising-none : (least bound : ℕ) (xs : List ℕ) → xs ≡ [] → rising-from least bound xs ≡ true
+unfolding rising-from
+rising-none least bound xs e = rw e
+
+module _ (least bound x : ℕ) (xs rest : List ℕ) (e : xs ≡ x ∷ rest) where
+  pub rising-more : least ≤ x → x < bound → rising-from least bound xs ≡ rising-from (x + 1) bound rest
+  unfolding rising-from
+  rising-more low high = rw (e, add-one) (simp (le-leb least x low, lt-ltb x bound high))
+
+  pub rising-low : x < least → rising-from least bound xs ≡ false
+  unfolding rising-from
+  rising-low h = rw e (simp (lt-leb least x h))
+
+  pub rising-high : bound ≤ x → rising-from least bound xs ≡ false
+  unfolding rising-from
+  rising-high h = rw e (simp (le-ltb x bound h, and-false))
