@@ -3,3 +3,5 @@ pub mod Onward
 pub mod Order
 pub mod Growth
 pub mod Label
+pub mod Labels
+pub mod Loaded
