@@ -1,4 +1,5 @@
--- Spelling and reading undo each other; what an accepted text is; what the table says of a text; texts with their answers.
+-- Spelling and reading undo each other; what an accepted text is; what the table says of a text; texts with their answers;
+-- what the code writes.
 pub mod Tests
 pub mod Digits
 pub mod Lines
@@ -6,9 +7,12 @@ pub mod Frames
 pub mod Faultless
 pub mod Accepted
 pub mod AcceptedNetwork
-pub mod Rows
+pub mod RowLaws
 pub mod Spelled
 pub mod RowsCheck
+pub mod Faults
+pub mod Checked
+pub mod RowsUnique
 pub mod RoundTrip
 pub mod Heavy
 pub mod Exactly
@@ -16,3 +20,7 @@ pub mod Table
 pub mod Room
 pub mod GateLines
 mod Cases
+pub mod Puts
+pub mod WrittenLines
+pub mod Unique
+mod LineExamples

@@ -1,25 +1,28 @@
 -- The round trips: a text that is read and written again is the same bytes, and rows that spell an accepted text are
 -- read back as the same rows.
 use Prim.Native.Nat.{ℕ, zero, suc, _+_, _≤_, _<_}
-use mathlib.Core.Path.{_≡_, sym, _∙_, ap}
+use mathlib.Core.Path.{_≡_, refl, sym, _∙_, ap}
 use mathlib.Core.Logic.{⊎-elim}
 use mathlib.Core.Bool.{false}
 use mathlib.Core.List.{List, [], _∷_, _++_}
+use mathlib.Core.Option.{Option, none, some}
 use native.Mathlib.Omega.{arith}
 use borrow.Author.Tests.{ltb-false}
 use lib.ListN.{length, getD}
-use lib.Dec.{ltb, eqb}
+use lib.Dec.{ltb}
 use Rattle.model.specs.Ceilings.{most-fanins, most-capacity, most-hop}
 use Rattle.model.specs.Network.{Gate, Network, size}
 use Rattle.model.proofs.Lists.{same-or-not}
-use Rattle.network.specs.Reading.{Reading, refused, network, told-heavy, reading, most-text}
-use Rattle.network.specs.Rows.{Rows, too-short, in-room, answer, fill, filled, row-gate, rows-network}
+use Rattle.network.specs.Reading.{Reading, refused, network, reading}
+use Rattle.network.specs.Rows.{Rows, too-short, in-room, answer, fill, filled, rows-network}
+use Rattle.network.specs.declared.rows.Fault.{Fault}
+use Rattle.network.specs.declared.rows.Fault.the-variants.{None, At}
+use Rattle.network.specs.RowsCheck.{fault-if, told, first-of, too-long, gate-number, gate-fault, first-fault, text-fault, unless-fault}
 use Rattle.network.specs.Spelling.{spell-line, header-bytes, gate-bytes, end-bytes, join, spell, spell-network, rows-answer}
 use Rattle.network.proofs.Tests.{never, passed, picked}
-use Rattle.network.proofs.Accepted.{AllFit, network-text, accepted-text, unless-network, told-light}
-use Rattle.network.proofs.Rows.{Room, room, AllFew, filled-gates, filled-network, fill-rows-network}
-use Rattle.network.proofs.Spelled.{gate-fault}
-use Rattle.network.proofs.RowsCheck.{InRange, text-length, gates-check, heavy-check, end-check, text-check, spell-framed, read-rows}
+use Rattle.network.proofs.Accepted.{AllFit, network-text, accepted-text}
+use Rattle.network.proofs.RowLaws.{Room, room, AllFew, filled-gates, filled-network, fill-rows-network}
+use Rattle.network.proofs.RowsCheck.{InRange, spell-framed, read-rows}
 
 -- a text, read and written again
 
@@ -69,17 +72,32 @@ answer-filled-written text n rows e =
 
 -- rows, written and read again
 
+-- faults where a network is answered: none
+
+both-none : (f g : Fault) → first-of f g ≡ None → (f ≡ None) × (g ≡ None)
+unfolding first-of
+both-none None g e = (refl, e)
+both-none (At number line) g e = never cc
+
+faultless : (f : Fault) (m n : Network) → unless-fault f (network m) ≡ network n → (f ≡ None) × (m ≡ n)
+unfolding unless-fault
+faultless None m n e = (refl, cc)
+faultless (At number line) m n e = never cc
+
+untold : (o : Option ℕ) (line : ℕ) → told o line ≡ None → o ≡ none
+unfolding told
+untold none line e = refl
+untold (some number) line e = never cc
+
 -- gates without fault have at most eight fan-ins
-checked : (rows : Rows) (v k : ℕ) (r : Reading) (n : Network) → gates-check rows v k r ≡ network n
-    → ((u : ℕ) → v ≤ u → u < v + k → getD (rows .counts) u 0 ≤ most-fanins) × (r ≡ network n)
-unfolding gates-check
-checked rows v zero r n e = ((λ u l h. absurd (omega arith)), e)
-checked rows v (suc k) r n e =
-    let count = getD (rows .counts) v 0 in
-    let s = unless-network (gate-fault v count (row-gate rows v .fanins)) (v + 2) (gates-check rows (suc v) k r) n e in
-    let t = checked rows (suc v) k r n (s .1) in
-    let here : count ≤ most-fanins = unfold gate-fault in ltb-false most-fanins count (passed (ltb most-fanins count) 4 _ (s .0) .0) in
-    ((λ u l h. ⊎-elim (λ (d : u ≡ v). rw d here) (λ (d : u ≡ v → ⊥). t .0 u (omega arith) (omega arith)) (same-or-not u v)), t .1)
+few-counted : (counts fanins : List ℕ) (v k : ℕ) → first-fault counts fanins v k ≡ None → (u : ℕ) → v ≤ u → u < v + k → getD counts u 0 ≤ most-fanins
+unfolding first-fault
+few-counted counts fanins v zero e u l h = absurd (omega arith)
+few-counted counts fanins v (suc k) e u l h =
+    let count = getD counts v 0 in
+    let s = both-none (gate-fault v count fanins) (first-fault counts fanins (suc v) k) e in
+    let here : count ≤ most-fanins = unfold gate-fault gate-number in ltb-false most-fanins count (passed (ltb most-fanins count) 4 _ (untold _ (v + 2) (s .0)) .0) in
+    ⊎-elim (λ (d : u ≡ v). rw d here) (λ (d : u ≡ v → ⊥). few-counted counts fanins (suc v) k (s .1) u (omega arith) (omega arith)) (same-or-not u v)
 
 -- Rows that spell an accepted text are read back as the same rows: the network read is the one that stands in them, and
 -- filling it in leaves them as they are.
@@ -87,24 +105,16 @@ pub record ReadBack (capacity hop gates : ℕ) (rows : Rows) (n : Network) : Typ
   pub same-network : n ≡ rows-network capacity hop gates rows
   pub same-rows : fill 0 (n .gates) rows ≡ rows
 
-read-back : (capacity hop gates : ℕ) (rows : Rows) (n : Network) → Room gates rows → text-check capacity hop gates rows ≡ network n
-    → ReadBack capacity hop gates rows n
-unfolding text-check
+read-back : (capacity hop gates : ℕ) (rows : Rows) (n : Network) → Room gates rows
+    → unless-fault (text-fault capacity gates rows) (network (rows-network capacity hop gates rows)) ≡ network n → ReadBack capacity hop gates rows n
+unfolding text-fault
 read-back capacity hop gates rows n r e =
-    let m = rows-network capacity hop gates rows in
-    let light = heavy-check capacity rows 0 gates in
-    ⊎-elim (λ s. let z = s .1 in never cc)
-    (λ s.
-    let t = checked rows 0 gates (end-check capacity hop gates rows) n (s .1) in
-    ⊎-elim (λ u. let z = u .1 in never cc)
-    (λ u.
-    let same = told-light light m n (u .1) .1 in
+    let none-found = faultless (text-fault capacity gates rows) (rows-network capacity hop gates rows) n e in
+    let of-gates = both-none (first-fault (rows .counts) (rows .fanins) 0 gates) _ (both-none (fault-if (too-long (rows .counts) gates) 1 0) _ (none-found .0) .1) .0 in
     record {
-      same-network = sym same;
-      same-rows = rw (← same) (fill-rows-network capacity hop gates rows r (λ v h. t .0 v (omega arith) (omega arith)));
-    })
-    (picked (eqb gates 0) (refused 8 2) (told-heavy light m) (t .1)))
-    (picked (ltb most-text (text-length gates rows)) (refused 1 0) (gates-check rows 0 gates (end-check capacity hop gates rows)) e)
+      same-network = sym (none-found .1);
+      same-rows = rw (← (none-found .1)) (fill-rows-network capacity hop gates rows r (λ v h. few-counted (rows .counts) (rows .fanins) 0 gates of-gates v (omega arith) (omega arith)));
+    }
 
 module _ (capacity hop gates : ℕ) (rows : Rows) (c : capacity ≤ most-capacity) (d : hop ≤ most-hop) (fit : InRange rows) where
   pub rows-read-back : (n : Network) → too-short gates rows ≡ false → reading (spell capacity hop gates rows) ≡ network n

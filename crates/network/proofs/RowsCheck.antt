@@ -1,8 +1,8 @@
 -- What rows answer, found without spelling them.
 use Prim.Native.Nat.{ℕ, zero, suc, _+_, _*_, _≤_, _<_, min}
-use mathlib.Core.Path.{_≡_, refl, _∙_, ap}
+use mathlib.Core.Path.{_≡_, refl, sym, _∙_, ap}
 use mathlib.Core.Logic.{⊎-elim}
-use mathlib.Core.Bool.{true, false, cond}
+use mathlib.Core.Bool.{Bool, true, false, cond}
 use mathlib.Core.List.{List, [], _∷_, _++_, map, append-assoc, append-nil}
 use mathlib.Core.Option.{Option, none, some}
 use native.Mathlib.Omega.{arith}
@@ -10,22 +10,25 @@ use borrow.Author.Tests.{leb-false, eq-eqb, ne-eqb}
 use lib.ListN.{length, getD, take, drop, length-append}
 use lib.Seq.{getD-drop}
 use lib.Dec.{leb, ltb, eqb}
-use Rattle.model.specs.Basics.{upto, total, gather}
+use Rattle.model.specs.Basics.{upto, gather}
 use Rattle.model.specs.Ceilings.{most-gates, most-fanins, most-capacity, most-hop}
 use Rattle.model.specs.Network.{Gate, Network}
 use Rattle.model.proofs.Lists.{true-or-false}
 use Rattle.frames.specs.Text.{Line, lines}
 use Rattle.frames.specs.declared.Place.the-variants.{Opening, AfterGates}
 use Rattle.frames.specs.Table.{kind, fault, gate-of}
-use Rattle.network.specs.Reading.{Reading, refused, network, nothing-read, with-header, with-gate, unless, walk, first-heavy, told-heavy, weigh, reading, most-text}
+use Rattle.network.specs.Reading.{Reading, refused, network, nothing-read, with-header, with-gate, unless, walk, first-heavy, told-heavy, weigh, reading}
 use Rattle.network.specs.Rows.{Rows, too-short, row-gate, rows-network}
+use Rattle.network.specs.declared.rows.Fault.{Fault}
+use Rattle.network.specs.declared.rows.Fault.the-variants.{None, At}
+use Rattle.network.specs.RowsCheck.{fault-if, told, first-of, gate-length, gates-length, text-length, too-long, gate-number, first-fault, heavy-fault, first-heavy-fault, text-fault, unless-fault, rows-check}
 use Rattle.network.specs.Spelling.{byte-digits, spell-line, header-bytes, gate-bytes, end-bytes, join, spell, rows-answer}
 use Rattle.network.proofs.Tests.{passed}
 use Rattle.network.proofs.Digits.{Below, length-digits}
 use Rattle.network.proofs.Lines.{lines-spelled}
 use Rattle.network.proofs.Accepted.{join-framed}
-use Rattle.network.proofs.Rows.{count-up, upto-counts-up, Room, room, less-room, row-gate-length}
-use Rattle.network.proofs.Spelled.{spelled, header-faultless, header-capacity-of, header-hop-of, header-length, gate-fault, gate-length, gate-kind, gate-of-spelled, gate-faults, end-length, end-kind, end-faults}
+use Rattle.network.proofs.RowLaws.{count-up, upto-counts-up, Room, room, less-room, row-gate-length}
+use Rattle.network.proofs.Spelled.{spelled, header-faultless, header-capacity-of, header-hop-of, header-length, gate-length as frame-length, gate-kind, gate-of-spelled, gate-faults, end-length, end-kind, end-faults}
 
 -- rows whose entries are numbers that fit: weights, delays and fan-ins two bytes, counts one
 pub record InRange (rows : Rows) : Type 0 where
@@ -34,41 +37,27 @@ pub record InRange (rows : Rows) : Type 0 where
   pub counts : Below 256 (rows .counts)
   pub fanins : Below 65_536 (rows .fanins)
 
--- the direct answer
+-- faults, one after the other
 
--- the length of the text: the header's line, the gates' lines, the end's line
-unfoldable pub text-length : ℕ → Rows → ℕ
-unfolding total upto
-text-length gates rows = 22 + total (λ v. 13 + 4 * min (getD (rows .counts) v 0) most-fanins) (upto gates)
+then-faults : (f g : Fault) (r : Reading) → unless-fault (first-of f g) r ≡ unless-fault f (unless-fault g r)
+unfolding unless-fault first-of
+then-faults None g r = refl
+then-faults (At number line) g r = refl
 
--- 4, 5 or 6 of the first gate that has one, from v on; gate v stands in line v + 2
-unfoldable pub gates-check : Rows → ℕ → ℕ → Reading → Reading
-unfolding unless gate-fault row-gate
-gates-check rows v zero r = r
-gates-check rows v (suc k) r =
-    unless (gate-fault v (getD (rows .counts) v 0) (row-gate rows v .fanins)) (v + 2) (gates-check rows (suc v) k r)
+unless-test : (test : Bool) (number line : ℕ) (r : Reading) → unless-fault (fault-if test number line) r ≡ cond test (refused number line) r
+unfolding unless-fault fault-if
+unless-test true number line r = refl
+unless-test false number line r = refl
 
--- 9, from v on
-unfoldable pub heavy-check : ℕ → Rows → ℕ → ℕ → Option ℕ
-heavy-check capacity rows v zero = none
-heavy-check capacity rows v (suc k) =
-    cond (ltb capacity (getD (rows .weights) v 0)) (some (v + 2)) (heavy-check capacity rows (suc v) k)
+unless-told : (o : Option ℕ) (line : ℕ) (r : Reading) → unless-fault (told o line) r ≡ unless o line r
+unfolding unless-fault told unless
+unless-told none line r = refl
+unless-told (some number) line r = refl
 
--- 8, and then 9
-unfoldable pub end-check : ℕ → ℕ → ℕ → Rows → Reading
-unfolding told-heavy heavy-check rows-network
-end-check capacity hop gates rows =
-    cond (eqb gates 0) (refused 8 2) (told-heavy (heavy-check capacity rows 0 gates) (rows-network capacity hop gates rows))
-
--- of rows that are long enough
-unfoldable pub text-check : ℕ → ℕ → ℕ → Rows → Reading
-unfolding text-length gates-check end-check
-text-check capacity hop gates rows =
-    cond (ltb most-text (text-length gates rows)) (refused 1 0) (gates-check rows 0 gates (end-check capacity hop gates rows))
-
-unfoldable pub rows-check : ℕ → ℕ → ℕ → Rows → Reading
-unfolding too-short text-check
-rows-check capacity hop gates rows = cond (too-short gates rows) (refused 10 0) (text-check capacity hop gates rows)
+in-order : (long none-there : Bool) (f h : Fault) (r : Reading)
+    → unless-fault (first-of (fault-if long 1 0) (first-of f (first-of (fault-if none-there 8 2) h))) r
+    ≡ cond long (refused 1 0) (unless-fault f (cond none-there (refused 8 2) (unless-fault h r)))
+in-order long none-there f h r = simp (then-faults, unless-test)
 
 -- the lines that rows spell
 
@@ -105,26 +94,27 @@ line-length bs = length-append (gather byte-digits bs) _ ∙ omega (arith, lengt
 
 -- of rows that are long enough, whose entries fit
 module _ (rows : Rows) (fit : InRange rows) where
-  gate-line-length : (v : ℕ) → Room (suc v) rows → length (spell-line (row-frame rows v)) ≡ 13 + 4 * min (getD (rows .counts) v 0) most-fanins
-  gate-line-length v r =
-      omega (arith, line-length (row-frame rows v), gate-length (row-gate rows v) (getD (rows .counts) v 0) (fit .counts v), row-gate-length v rows r)
+  spelled-gate-length : (v : ℕ) → Room (suc v) rows → length (spell-line (row-frame rows v)) ≡ gate-length (getD (rows .counts) v 0)
+  unfolding gate-length
+  spelled-gate-length v r =
+      omega (arith, line-length (row-frame rows v), frame-length (row-gate rows v) (getD (rows .counts) v 0) (fit .counts v), row-gate-length v rows r)
 
-  gates-length : (v k : ℕ) → Room (v + k) rows
-      → length (join (map (λ u. spell-line (row-frame rows u)) (count-up v k))) ≡ total (λ u. 13 + 4 * min (getD (rows .counts) u 0) most-fanins) (count-up v k)
-  unfolding join total count-up
-  gates-length v zero r = refl
-  gates-length v (suc k) r =
+  spelled-gates-length : (v k : ℕ) → Room (v + k) rows
+      → length (join (map (λ u. spell-line (row-frame rows u)) (count-up v k))) ≡ gates-length (rows .counts) v k
+  unfolding join count-up gates-length
+  spelled-gates-length v zero r = refl
+  spelled-gates-length v (suc k) r =
       let c : v + suc k ≡ suc v + k = omega arith in
       length-append (spell-line (row-frame rows v)) _
-      ∙ omega (arith, gate-line-length v (less-room (suc v) (v + suc k) rows (omega arith) r), gates-length (suc v) k (rw c at r))
+      ∙ omega (arith, spelled-gate-length v (less-room (suc v) (v + suc k) rows (omega arith) r), spelled-gates-length (suc v) k (rw c at r))
 
-  spell-length : (capacity hop gates : ℕ) → Room gates rows → length (spell capacity hop gates rows) ≡ text-length gates rows
+  spell-length : (capacity hop gates : ℕ) → Room gates rows → length (spell capacity hop gates rows) ≡ text-length (rows .counts) gates
   unfolding text-length
   spell-length capacity hop gates r =
       let c : 0 + gates ≡ gates = omega arith in
       let gs = join (map (λ u. spell-line (row-frame rows u)) (count-up 0 gates)) in
-      rw (spell-framed capacity hop gates rows, length-append (spell-line (header-bytes capacity hop)) (gs ++ spell-line (end-bytes gates)), length-append gs (spell-line (end-bytes gates)), upto-counts-up gates)
-      (omega (arith, line-length (header-bytes capacity hop), header-length capacity hop, line-length (end-bytes gates), end-length gates, gates-length 0 gates (rw c r)))
+      rw (spell-framed capacity hop gates rows, length-append (spell-line (header-bytes capacity hop)) (gs ++ spell-line (end-bytes gates)), length-append gs (spell-line (end-bytes gates)))
+      (omega (arith, line-length (header-bytes capacity hop), header-length capacity hop, line-length (end-bytes gates), end-length gates, spelled-gates-length 0 gates (rw c r)))
 
 -- reading the lines
 
@@ -167,8 +157,8 @@ unfolding with-gate
 with-that-gate n l g e = ap (λ (x : Gate). more-gates n (x ∷ [])) e
 
 -- a gate that has no fault is one of the 512
-in-number : (v count : ℕ) (fs : List ℕ) → gate-fault v count fs ≡ none → v < most-gates
-unfolding gate-fault
+in-number : (v count : ℕ) (fs : List ℕ) → gate-number v count fs ≡ none → v < most-gates
+unfolding gate-number
 in-number v count fs e = leb-false most-gates v (passed (leb most-gates v) 5 _ (passed (ltb most-fanins count) 4 _ e .1) .0)
 
 below-take : (k n : ℕ) (xs : List ℕ) → 0 < k → Below k xs → Below k (take n xs)
@@ -202,8 +192,8 @@ module _ (rows : Rows) (fit : InRange rows) where
   -- the number that the end tells fits its two bytes.
   walk-rows : (v k at : ℕ) (n : Network) → v ≤ most-gates → Room (v + k) rows → at ≡ v + 2
       → walk (AfterGates v) at n (map (λ u. spelled (row-frame rows u)) (count-up v k) ++ (spelled (end-bytes (v + k)) ∷ []))
-      ≡ gates-check rows v k (ended (v + k) (more-gates n (map (row-gate rows) (count-up v k))))
-  unfolding count-up gates-check
+      ≡ unless-fault (first-fault (rows .counts) (rows .fanins) v k) (ended (v + k) (more-gates n (map (row-gate rows) (count-up v k))))
+  unfolding count-up first-fault unless-fault row-gate
   walk-rows v zero at n h r e =
       let c : v + 0 ≡ v = omega arith in
       rw (c, walk-end v at n (spelled (end-bytes v)) (end-kind v), end-faults v (omega arith), no-more-gates n) (ended-here v at n e)
@@ -215,43 +205,50 @@ module _ (rows : Rows) (fit : InRange rows) where
       let gs = map (row-gate rows) (count-up (suc v) k) in
       let rest = map (λ u. spelled (row-frame rows u)) (count-up (suc v) k) ++ (spelled (end-bytes (v + suc k)) ∷ []) in
       let d = row-gate-length v rows (less-room (suc v) (v + suc k) rows (omega arith) r) in
+      let here = gate-number v count (g .fanins) in
+      let later = first-fault (rows .counts) (rows .fanins) (suc v) k in
+      let then = ended (v + suc k) (more-gates n (g ∷ gs)) in
       walk-gate v at n l rest (gate-kind g count (fit .counts v))
       ∙ ap (λ (o : Option ℕ). unless o at (walk (AfterGates (suc v)) (suc at) (with-gate n l) rest)) (gate-faults g count (fit .counts v) v (row-fanins-below v) d)
-      ∙ ap (λ (a : ℕ). unless (gate-fault v count (g .fanins)) a (walk (AfterGates (suc v)) (suc at) (with-gate n l) rest)) e
-      ∙ unless-same (gate-fault v count (g .fanins)) (v + 2) (walk (AfterGates (suc v)) (suc at) (with-gate n l) rest) (gates-check rows (suc v) k (ended (v + suc k) (more-gates n (g ∷ gs))))
+      ∙ ap (λ (a : ℕ). unless here a (walk (AfterGates (suc v)) (suc at) (with-gate n l) rest)) e
+      ∙ unless-same here (v + 2) (walk (AfterGates (suc v)) (suc at) (with-gate n l) rest) (unless-fault later then)
       (λ z.
       rw (c, with-that-gate n l g (row-line-gate v))
       (walk-rows (suc v) k (suc at) (more-gates n (g ∷ [])) (in-number v count (g .fanins) z) (rw c at r) (omega arith)
-      ∙ ap (λ (m : Network). gates-check rows (suc v) k (ended (suc v + k) m)) (still-more-gates n (g ∷ []) gs)))
+      ∙ ap (λ (m : Network). unless-fault later (ended (suc v + k) m)) (still-more-gates n (g ∷ []) gs)))
+      ∙ sym (then-faults (told here (v + 2)) later then ∙ unless-told here (v + 2) (unless-fault later then))
 
 -- 9
 
-heavy-rows : (capacity : ℕ) (rows : Rows) (v k at : ℕ) → at ≡ v + 2
-    → first-heavy capacity at (map (row-gate rows) (count-up v k)) ≡ heavy-check capacity rows v k
-unfolding first-heavy heavy-check count-up row-gate
-heavy-rows capacity rows v zero at e = refl
-heavy-rows capacity rows v (suc k) at e =
-    rw (e, heavy-rows capacity rows (suc v) k (suc (v + 2)) (omega arith))
+heavy-here : (test : Bool) (at line : ℕ) (o : Option ℕ) (f : Fault) (n : Network) → at ≡ line → told-heavy o n ≡ unless-fault f (network n)
+    → told-heavy (cond test (some at) o) n ≡ unless-fault (first-of (fault-if test 9 line) f) (network n)
+unfolding told-heavy unless-fault first-of fault-if
+heavy-here true at line o f n e h = rw e
+heavy-here false at line o f n e h = h
+
+heavy-rows : (capacity : ℕ) (rows : Rows) (v k at : ℕ) (n : Network) → at ≡ v + 2
+    → told-heavy (first-heavy capacity at (map (row-gate rows) (count-up v k))) n ≡ unless-fault (first-heavy-fault capacity (rows .weights) v k) (network n)
+unfolding first-heavy first-heavy-fault count-up row-gate heavy-fault
+heavy-rows capacity rows v zero at n e = unfold told-heavy unless-fault in refl
+heavy-rows capacity rows v (suc k) at n e =
+    heavy-here (ltb capacity (getD (rows .weights) v 0)) at (v + 2) (first-heavy capacity (suc at) (map (row-gate rows) (count-up (suc v) k))) (first-heavy-fault capacity (rows .weights) (suc v) k) n e
+    (heavy-rows capacity rows (suc v) k (suc at) n (omega arith))
 
 rows-network-counts-up : (capacity hop gates : ℕ) (rows : Rows)
     → rows-network capacity hop gates rows ≡ record { capacity = capacity; hop = hop; gates = map (row-gate rows) (count-up 0 gates) }
 unfolding rows-network
 rows-network-counts-up capacity hop gates rows = rw (upto-counts-up gates)
 
-heavy-network : (capacity hop gates : ℕ) (rows : Rows)
-    → first-heavy (rows-network capacity hop gates rows .capacity) 2 (rows-network capacity hop gates rows .gates) ≡ heavy-check capacity rows 0 gates
-heavy-network capacity hop gates rows = rw (rows-network-counts-up capacity hop gates rows) (heavy-rows capacity rows 0 gates 2 refl)
+heavy-network : (capacity hop gates : ℕ) (rows : Rows) (n : Network)
+    → told-heavy (first-heavy (rows-network capacity hop gates rows .capacity) 2 (rows-network capacity hop gates rows .gates)) n
+    ≡ unless-fault (first-heavy-fault capacity (rows .weights) 0 gates) (network n)
+heavy-network capacity hop gates rows n =
+    rw (rows-network-counts-up capacity hop gates rows) (heavy-rows capacity rows 0 gates 2 n refl)
 
-weigh-unless : (o : Option ℕ) (at : ℕ) (r : Reading) → weigh (unless o at r) ≡ unless o at (weigh r)
-unfolding weigh unless
-weigh-unless none at r = refl
-weigh-unless (some k) at r = refl
-
-weigh-gates : (rows : Rows) (v k : ℕ) (r : Reading) → weigh (gates-check rows v k r) ≡ gates-check rows v k (weigh r)
-unfolding gates-check
-weigh-gates rows v zero r = refl
-weigh-gates rows v (suc k) r =
-    rw (weigh-unless (gate-fault v (getD (rows .counts) v 0) (row-gate rows v .fanins)) (v + 2) (gates-check rows (suc v) k r), weigh-gates rows (suc v) k r)
+weigh-faults : (f : Fault) (r : Reading) → weigh (unless-fault f r) ≡ unless-fault f (weigh r)
+unfolding weigh unless-fault
+weigh-faults None r = refl
+weigh-faults (At number line) r = refl
 
 weigh-ended : (gates : ℕ) (n : Network) → weigh (ended gates n) ≡ cond (eqb gates 0) (refused 8 2) (told-heavy (first-heavy (n .capacity) 2 (n .gates)) n)
 unfolding weigh
@@ -266,7 +263,8 @@ module _ (capacity hop gates : ℕ) (rows : Rows) (c : capacity ≤ most-capacit
   header-of-rows = rw (header-capacity-of capacity hop (omega arith), header-hop-of capacity hop (omega arith))
 
   walk-spelled : Room gates rows
-      → walk Opening 1 nothing-read (lines (spell capacity hop gates rows)) ≡ gates-check rows 0 gates (ended gates (rows-network capacity hop gates rows))
+      → walk Opening 1 nothing-read (lines (spell capacity hop gates rows))
+      ≡ unless-fault (first-fault (rows .counts) (rows .fanins) 0 gates) (ended gates (rows-network capacity hop gates rows))
   unfolding unless
   walk-spelled r =
       let z : 0 + gates ≡ gates = omega arith in
@@ -275,10 +273,14 @@ module _ (capacity hop gates : ℕ) (rows : Rows) (c : capacity ≤ most-capacit
       rw (spell-lines capacity hop gates rows, walk-header 1 nothing-read (spelled (header-bytes capacity hop)) gs, header-faultless capacity hop, header-of-rows, rows-network-counts-up capacity hop gates rows)
       (rw z at w)
 
-  pub read-rows : Room gates rows → reading (spell capacity hop gates rows) ≡ text-check capacity hop gates rows
-  unfolding reading text-check
+  pub read-rows : Room gates rows
+      → reading (spell capacity hop gates rows) ≡ unless-fault (text-fault capacity gates rows) (network (rows-network capacity hop gates rows))
+  unfolding reading text-fault too-long
   read-rows r =
-      rw (spell-length rows fit capacity hop gates r, walk-spelled r, weigh-gates rows 0 gates (ended gates (rows-network capacity hop gates rows)), weigh-ended gates (rows-network capacity hop gates rows), heavy-network capacity hop gates rows)
+      let n = rows-network capacity hop gates rows in
+      let fs = first-fault (rows .counts) (rows .fanins) 0 gates in
+      rw (spell-length rows fit capacity hop gates r, walk-spelled r, weigh-faults fs (ended gates n), weigh-ended gates n, heavy-network capacity hop gates rows n)
+      (sym (in-order (too-long (rows .counts) gates) (eqb gates 0) fs (first-heavy-fault capacity (rows .weights) 0 gates) (network n)))
 
   -- What rows answer, for every number of gates and all rows whose entries fit.
   pub rows-answer-check : rows-answer capacity hop gates rows ≡ rows-check capacity hop gates rows

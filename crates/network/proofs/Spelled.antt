@@ -16,6 +16,7 @@ use Rattle.frames.specs.Text.{Line}
 use Rattle.frames.specs.declared.Place.{Place}
 use Rattle.frames.specs.declared.Place.the-variants.{Opening, AfterGates}
 use Rattle.frames.specs.Table.{kind, frame-length, header-capacity, header-hop, gate-count, gate-fanins, gate-of, end-count, malformed, misplaced, wrong-length, one-too-many, rising-from, unordered, miscounted, no-gates, fault}
+use Rattle.network.specs.RowsCheck.{gate-number}
 use Rattle.network.specs.Spelling.{word-bytes, long-bytes, byte-digits, header-bytes, gate-bytes, end-bytes}
 use Rattle.network.proofs.Digits.{Below, bytes-digits, digits-are-digits, digits-are-even, word-of, words-bytes, length-word-bytes, word-bytes-below, words-bytes-below, long-at-head}
 use Rattle.network.proofs.Lines.{line-of}
@@ -106,12 +107,6 @@ module _ (capacity hop : ℕ) where
 
 -- a gate
 
--- 4, 5 and 6, the faults that the line of a gate can have
-unfoldable pub gate-fault : ℕ → ℕ → List ℕ → Option ℕ
-unfolding rising-from
-gate-fault v count fanins =
-    cond (ltb most-fanins count) (some 4) (cond (leb most-gates v) (some 5) (cond (not (rising-from 0 v fanins)) (some 6) none))
-
 -- as many fan-ins as are counted, but no more than eight: the length is wrong only where the count is
 count-decides : (count k : ℕ) → k ≡ min count most-fanins
     → (ltb most-fanins count || not (eqb (6 + 2 * k) (6 + 2 * count))) ≡ ltb most-fanins count
@@ -161,8 +156,8 @@ module _ (g : Gate) (count : ℕ) (c : count < 256) where
   gate-frame-length = spelled-length (gate-bytes g count) gate-below ∙ gate-length
 
   pub gate-faults : (v : ℕ) → Below 65_536 (g .fanins) → length (g .fanins) ≡ min count most-fanins
-      → fault (AfterGates v) (spelled (gate-bytes g count)) ≡ gate-fault v count (g .fanins)
-  unfolding gate-fault
+      → fault (AfterGates v) (spelled (gate-bytes g count)) ≡ gate-number v count (g .fanins)
+  unfolding gate-number
   gate-faults v b m =
       let l = spelled (gate-bytes g count) in
       let k = gate-kind in

@@ -4,3 +4,6 @@ pub mod Says
 pub mod Rows
 pub mod Spelling
 pub mod Shown
+pub mod RowsCheck
+pub mod Checked
+pub mod Writing

@@ -1,0 +1,39 @@
+-- No second outcome meets a contract of `network`. Each statement is about the contract itself: `Learnt` is what the
+-- function's `ensures` says of the arguments, the result and the parameters at exit.
+use Prim.Native.Nat.{ℕ}
+use mathlib.Core.Path.{_≡_, sym, _∙_}
+use mathlib.Core.List.{List}
+use denote.Ref.{now}
+use Rattle.network.specs.declared.writing.Written.{Written}
+use Rattle.network.specs.Rows.{Rows}
+use Rattle.network.specs.Writing.{RowsWritten}
+use Rattle.network.proofs.writing.put_byte.Reads as put-byte
+use Rattle.network.proofs.writing.put_word.Reads as put-word
+use Rattle.network.proofs.writing.put_long.Reads as put-long
+use Rattle.network.proofs.writing.put_words.Reads as put-words
+
+-- Two outcomes that a contract allows for the same arguments are one: the result, and the lent row at exit.
+abbrev pub OneOutcome : {K : Type 0} {A R E : K → Type 0} → ((κs : K) → A κs → R κs → E κs → Type 0) → ((κs : K) → E κs → List ℕ) → Type 0
+OneOutcome {K} {A} {R} {E} Ensured row =
+    (κs : K) (args : A κs) (r s : R κs) (exit exit′ : E κs) → Ensured κs args r exit → Ensured κs args s exit′ → (r ≡ s) × (row κs exit ≡ row κs exit′)
+
+-- What equals the same thing is equal.
+same : {X : Type 0} {r s x : X} → r ≡ x → s ≡ x → r ≡ s
+same p q = p ∙ sym q
+
+pub put-byte-unique : OneOutcome put-byte.Learnt (λ κs exit. now (exit .0))
+put-byte-unique κs args r s exit exit′ p q = (same (p .answer) (q .answer), same (p .kept) (q .kept))
+
+pub put-word-unique : OneOutcome put-word.Learnt (λ κs exit. now (exit .0))
+put-word-unique κs args r s exit exit′ p q = (same (p .answer) (q .answer), same (p .kept) (q .kept))
+
+pub put-long-unique : OneOutcome put-long.Learnt (λ κs exit. now (exit .0))
+put-long-unique κs args r s exit exit′ p q = (same (p .answer) (q .answer), same (p .kept) (q .kept))
+
+pub put-words-unique : OneOutcome put-words.Learnt (λ κs exit. now (exit .0))
+put-words-unique κs args r s exit exit′ p q = (same (p .answer) (q .answer), same (p .kept) (q .kept))
+
+-- The contract of writing a line of rows leaves no second outcome either.
+pub rows-written-unique : {index capacity hop gates : ℕ} {rows : Rows} {out : List ℕ} {r s : Written} {row row′ : List ℕ}
+    → RowsWritten index capacity hop gates rows out r row → RowsWritten index capacity hop gates rows out s row′ → (r ≡ s) × (row ≡ row′)
+rows-written-unique p q = (same (p .answer) (q .answer), same (p .kept) (q .kept))

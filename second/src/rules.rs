@@ -1,0 +1,272 @@
+//! Texts: how a network is spelled, and the refusal table, numbers 1 to 9. Number 10 speaks of lent
+//! rows, and a program has none.
+
+use crate::hex;
+
+pub const LONGEST_TEXT: usize = 24_576;
+pub const MOST_GATES: usize = 512;
+pub const MOST_FANINS: usize = 8;
+
+pub const HEADER: u8 = 0x01;
+pub const GATE: u8 = 0x02;
+pub const END: u8 = 0x0F;
+pub const REFUSAL: u8 = 0x1E;
+
+#[derive(Clone, Debug, Default, PartialEq, Eq)]
+pub struct Gate {
+    pub weight: u16,
+    pub delay: u16,
+    pub fanins: Vec<u16>,
+}
+
+/// A network with its capacity M and its hop delay D.
+#[derive(Clone, Debug, Default, PartialEq, Eq)]
+pub struct Network {
+    pub capacity: u32,
+    pub hop: u16,
+    pub gates: Vec<Gate>,
+}
+
+#[derive(Clone, Copy, Debug, PartialEq, Eq)]
+pub struct Refusal {
+    pub number: u8,
+    pub line: usize,
+}
+
+impl Refusal {
+    /// The whole answer to a refused text.
+    pub fn answer(self) -> Vec<u8> {
+        let mut text = Vec::new();
+        hex::push(&mut text, REFUSAL.into(), 1);
+        hex::push(&mut text, self.number.into(), 1);
+        hex::push(&mut text, self.line, 2);
+        text.push(b'\n');
+        text
+    }
+}
+
+impl Gate {
+    pub fn fanins(&self) -> impl Iterator<Item = usize> + '_ {
+        self.fanins.iter().map(|&fanin| usize::from(fanin))
+    }
+
+    pub fn is_input(&self) -> bool {
+        self.fanins.is_empty()
+    }
+
+    /// Appends this gate's line.
+    pub fn push(&self, text: &mut Vec<u8>) {
+        hex::push(text, GATE.into(), 1);
+        hex::push(text, self.weight.into(), 2);
+        hex::push(text, self.delay.into(), 2);
+        hex::push(text, self.fanins.len(), 1);
+        for fanin in self.fanins() {
+            hex::push(text, fanin, 2);
+        }
+        text.push(b'\n');
+    }
+}
+
+impl Network {
+    /// For each gate, whether it is a primary output: read by no gate.
+    pub fn outputs(&self) -> Vec<bool> {
+        let mut unread = vec![true; self.gates.len()];
+        for gate in &self.gates {
+            for fanin in gate.fanins() {
+                unread[fanin] = false;
+            }
+        }
+        unread
+    }
+
+    pub fn text(&self) -> Vec<u8> {
+        let mut text = Vec::with_capacity(32 * (self.gates.len() + 1));
+        hex::push(&mut text, HEADER.into(), 1);
+        hex::push(&mut text, self.capacity as usize, 4);
+        hex::push(&mut text, self.hop.into(), 2);
+        text.push(b'\n');
+        for gate in &self.gates {
+            gate.push(&mut text);
+        }
+        hex::push(&mut text, END.into(), 1);
+        hex::push(&mut text, self.gates.len(), 2);
+        text.push(b'\n');
+        text
+    }
+
+    /// Refusal 9, if a gate is heavier than M. The header is line 1, so gate 0 stands in line 2.
+    pub fn too_heavy(&self) -> Option<Refusal> {
+        let heavy = |gate: &Gate| u32::from(gate.weight) > self.capacity;
+        self.gates.iter().position(heavy).map(|gate| Refusal { number: 9, line: gate + 2 })
+    }
+}
+
+/// The network that a text spells, or its refusal of 1 to 8.
+pub fn read(text: &[u8]) -> Result<Network, Refusal> {
+    if text.len() > LONGEST_TEXT {
+        return Err(Refusal { number: 1, line: 0 });
+    }
+    let mut network = Network::default();
+    let mut ended = false;
+    let mut lines = 0;
+    let mut frame = Vec::with_capacity(32);
+    for ended_line in text.split_inclusive(|&byte| byte == b'\n') {
+        lines += 1;
+        let spelled = ended_line.strip_suffix(b"\n").is_some_and(|line| hex::decode(line, &mut frame));
+        let fault = if spelled { fault(&frame, lines, network.gates.len(), ended) } else { Some(2) };
+        if let Some(number) = fault {
+            return Err(Refusal { number, line: lines });
+        }
+        ended = frame[0] == END;
+        take(&frame, &mut network);
+    }
+    if !ended {
+        return Err(Refusal { number: 3, line: lines + 1 });
+    }
+    Ok(network)
+}
+
+/// The lowest number from 3 to 8 that a line deserves whose digits are in order. `gates` and `ended`
+/// tell what the lines before it held: how many gates, and whether an end.
+fn fault(frame: &[u8], line: usize, gates: usize, ended: bool) -> Option<u8> {
+    let (kind, body) = (frame[0], &frame[1..]);
+    let placed = match kind {
+        HEADER => line == 1,
+        GATE | END => line > 1 && !ended,
+        _ => false,
+    };
+    if !placed {
+        return Some(3);
+    }
+    let right_length = match kind {
+        HEADER => body.len() == 6,
+        GATE => body.len() >= 5 && counted(body),
+        _ => body.len() == 2,
+    };
+    if !right_length {
+        return Some(4);
+    }
+    match kind {
+        GATE if gates == MOST_GATES => Some(5),
+        GATE if !rising_below(&body[5..], gates) => Some(6),
+        END if hex::number(body) != gates => Some(7),
+        END if gates == 0 => Some(8),
+        _ => None,
+    }
+}
+
+fn counted(gate: &[u8]) -> bool {
+    let count = usize::from(gate[4]);
+    count <= MOST_FANINS && gate.len() == 5 + 2 * count
+}
+
+/// Whether the fan-ins rise strictly and the last of them, so each, is below the gate.
+fn rising_below(fanins: &[u8], gate: usize) -> bool {
+    let mut least = 0;
+    for fanin in fanins.chunks(2).map(hex::number) {
+        if fanin < least {
+            return false;
+        }
+        least = fanin + 1;
+    }
+    least <= gate
+}
+
+/// Adds what a faultless line says.
+fn take(frame: &[u8], network: &mut Network) {
+    let body = &frame[1..];
+    let short = |at: usize| hex::number(&body[at..at + 2]) as u16;
+    match frame[0] {
+        HEADER => {
+            network.capacity = hex::number(&body[..4]) as u32;
+            network.hop = short(4);
+        }
+        GATE => network.gates.push(Gate {
+            weight: short(0),
+            delay: short(2),
+            fanins: (5..body.len()).step_by(2).map(short).collect(),
+        }),
+        _ => {}
+    }
+}
+
+#[cfg(test)]
+mod tests {
+    use super::*;
+
+    const A: &str = "01000000030004\n020001000100\n020001000200\n02000100030200000001\n\
+                     0200010001010001\n02000100020200020003\n0F0005\n";
+
+    fn refused(text: &str) -> (u8, usize) {
+        let refusal = match read(text.as_bytes()) {
+            Err(refusal) => refusal,
+            Ok(network) => network.too_heavy().expect("refused"),
+        };
+        (refusal.number, refusal.line)
+    }
+
+    #[test]
+    fn network_a_is_read_and_written_again() {
+        let network = read(A.as_bytes()).unwrap();
+        assert_eq!((network.capacity, network.hop, network.gates.len()), (3, 4, 5));
+        assert_eq!(network.gates[4], Gate { weight: 1, delay: 2, fanins: vec![2, 3] });
+        assert_eq!(network.outputs(), [false, false, false, false, true]);
+        assert_eq!(network.text(), A.as_bytes());
+    }
+
+    #[test]
+    fn one_fault() {
+        assert_eq!(refused(""), (3, 1));
+        assert_eq!(refused("\n"), (2, 1));
+        assert_eq!(refused("01000000030004"), (2, 1));
+        assert_eq!(refused("01000000030004\n"), (3, 2));
+        assert_eq!(refused("01000000030004\r\n"), (2, 1));
+        assert_eq!(refused("0100000003000\n"), (2, 1));
+        assert_eq!(refused(&A.replace('F', "f")), (2, 7));
+        assert_eq!(refused(&A[..A.len() - 1]), (2, 7));
+        assert_eq!(refused(&format!("{A}\n")), (2, 8));
+        assert_eq!(refused(&format!("{A}0F0005\n")), (3, 8));
+        assert_eq!(refused(&format!("{A}020001000100\n")), (3, 8));
+        assert_eq!(refused(&A[..A.len() - 7]), (3, 7));
+        assert_eq!(refused(&A[15..]), (3, 1));
+        assert_eq!(refused(&format!("01000000030004\n{A}")), (3, 2));
+        assert_eq!(refused(&A.replace("0F0005", "1F0005")), (3, 7));
+        assert_eq!(refused(&A.replace("0F0005", "0F05")), (4, 7));
+        assert_eq!(refused(&A.replace("0F0005", "0F000005")), (4, 7));
+        assert_eq!(refused(&A.replace("0001010001", "000101")), (4, 5));
+        assert_eq!(refused("0100000003\n"), (4, 1));
+        assert_eq!(refused("01000000030004\n02\n"), (4, 2));
+        assert_eq!(refused(&A.replace("0200000001", "0200010000")), (6, 4));
+        assert_eq!(refused(&A.replace("0200000001", "0200010001")), (6, 4));
+        assert_eq!(refused(&A.replace("0200000001", "0200010002")), (6, 4));
+        assert_eq!(refused(&A.replace("0F0005", "0F0006")), (7, 7));
+        assert_eq!(refused("01000000030004\n0F0000\n"), (8, 2));
+        assert_eq!(refused(&A.replace("00000003", "00000000")), (9, 2));
+        assert_eq!(refused(&A.replace("020001000200", "020004000200")), (9, 3));
+    }
+
+    #[test]
+    fn the_first_faulty_line_decides_and_in_it_the_lowest_number() {
+        assert_eq!(refused("01000000030004\n0F0001\n"), (7, 2));
+        assert_eq!(refused("FF0\n"), (2, 1));
+        assert_eq!(refused("FFFG\n"), (2, 1));
+        assert_eq!(refused("02\n"), (3, 1));
+        assert_eq!(refused("01000000030004\n03\n0\n"), (3, 2));
+        assert_eq!(refused("01000000030004\n020000000001\n0\n"), (4, 2));
+        assert_eq!(refused("01000000000004\n020001000100\n0F0002\n"), (7, 3));
+        assert_eq!(refused("01000000000004\n020001000100\n"), (3, 3));
+        let nine = "0000".repeat(9);
+        assert_eq!(refused(&format!("01000000030004\n020000000009{nine}\n")), (4, 2));
+    }
+
+    #[test]
+    fn gates_and_bytes_at_their_ceilings() {
+        let full = format!("01000000030004\n{}", "020001000100\n".repeat(512));
+        assert!(read(format!("{full}0F0200\n").as_bytes()).is_ok());
+        assert_eq!(refused(&format!("{full}020001000100\n0F0201\n")), (5, 514));
+        assert_eq!(refused(&format!("{full}020001000109\n")), (4, 514));
+        assert_eq!(refused(&format!("{full}0200010001010200\n")), (5, 514));
+        assert_eq!(refused(&"\n".repeat(24_576)), (2, 1));
+        assert_eq!(refused(&"\n".repeat(24_577)), (1, 0));
+    }
+}

@@ -1,0 +1,161 @@
+//! The networks that speed is measured on, and the times of the two baselines on them.
+
+use std::time::{Duration, Instant};
+
+use crate::rng::Rng;
+use crate::rules::{Gate, Network, MOST_FANINS, MOST_GATES};
+use crate::steps::Rows;
+use crate::{sorted, steps};
+
+#[derive(Clone, Copy, Debug)]
+pub enum Shape {
+    /// Each gate reads the one before it.
+    Chain,
+    /// Each gate reads the 8 before it.
+    Last8,
+    /// Each gate reads up to 8 of all before it.
+    Random,
+}
+
+pub const SHAPES: [Shape; 3] = [Shape::Chain, Shape::Last8, Shape::Random];
+
+/// M of one gate, of about a hundred, of all: every gate weighs 1.
+pub const CAPACITIES: [u32; 3] = [1, 100, 512];
+
+/// Gates of weight 1, delays from 1 to 100, D 50.
+pub fn network(shape: Shape, gates: usize, capacity: u32) -> Network {
+    let mut rng = Rng::new(512);
+    let mut network = Network { capacity, hop: 50, gates: Vec::new() };
+    for number in 0..gates {
+        let lowest = match shape {
+            Shape::Chain => number.saturating_sub(1),
+            Shape::Last8 => number.saturating_sub(MOST_FANINS),
+            Shape::Random => 0,
+        };
+        let mut fanins: Vec<_> = (lowest..number).map(|fanin| fanin as u16).collect();
+        while fanins.len() > MOST_FANINS {
+            fanins.swap_remove(rng.below(fanins.len()));
+        }
+        fanins.sort_unstable();
+        network.gates.push(Gate { weight: 1, delay: rng.between(1, 100) as u16, fanins });
+    }
+    network
+}
+
+/// The rows of a network, as the baselines take them.
+pub struct Owned {
+    capacity: u32,
+    hop: u16,
+    gates: usize,
+    weights: [u16; MOST_GATES],
+    delays: [u16; MOST_GATES],
+    counts: [u8; MOST_GATES],
+    fanins: [u16; MOST_GATES * MOST_FANINS],
+}
+
+impl Owned {
+    pub fn of(network: &Network) -> Owned {
+        let mut owned = Owned {
+            capacity: network.capacity,
+            hop: network.hop,
+            gates: network.gates.len(),
+            weights: [0; MOST_GATES],
+            delays: [0; MOST_GATES],
+            counts: [0; MOST_GATES],
+            fanins: [0; MOST_GATES * MOST_FANINS],
+        };
+        for (number, gate) in network.gates.iter().enumerate() {
+            owned.weights[number] = gate.weight;
+            owned.delays[number] = gate.delay;
+            owned.counts[number] = gate.fanins.len() as u8;
+            let first = number * MOST_FANINS;
+            owned.fanins[first..first + gate.fanins.len()].copy_from_slice(&gate.fanins);
+        }
+        owned
+    }
+
+    pub fn rows(&self) -> Rows<'_> {
+        Rows {
+            capacity: self.capacity,
+            hop: self.hop,
+            gates: self.gates,
+            weights: &self.weights,
+            delays: &self.delays,
+            counts: &self.counts,
+            fanins: &self.fanins,
+        }
+    }
+}
+
+type Label = fn(u32, u16, usize, &[u16], &[u16], &[u8], &[u16], &mut [u32]);
+
+/// The labels that a baseline gives a network in rows.
+pub fn labels(label: Label, rows: &Rows) -> [u32; MOST_GATES] {
+    let mut labels = [0; MOST_GATES];
+    let Rows { capacity, hop, gates, weights, delays, counts, fanins } = *rows;
+    label(capacity, hop, gates, weights, delays, counts, fanins, &mut labels);
+    labels
+}
+
+/// The shortest of several runs.
+fn time(label: Label, rows: &Rows) -> Duration {
+    let run = || {
+        let start = Instant::now();
+        std::hint::black_box(labels(label, std::hint::black_box(rows)));
+        start.elapsed()
+    };
+    (0..20).map(|_| run()).min().expect("twenty runs")
+}
+
+/// A table of the times of both baselines in microseconds, for 64 to 512 gates.
+pub fn times() -> String {
+    let mut table = format!("{:>8} {:>5} {:>5} {:>10} {:>10}\n", "shape", "M", "gates", "steps", "sorted");
+    for shape in SHAPES {
+        for capacity in CAPACITIES {
+            for gates in [64, 128, 256, 512] {
+                let owned = Owned::of(&network(shape, gates, capacity));
+                let [steps, sorted] = [steps::label as Label, sorted::label]
+                    .map(|label| time(label, &owned.rows()).as_secs_f64() * 1e6);
+                let shape = format!("{shape:?}");
+                table += &format!("{shape:>8} {capacity:>5} {gates:>5} {steps:>10.1} {sorted:>10.1}\n");
+            }
+        }
+    }
+    table
+}
+
+#[cfg(test)]
+mod tests {
+    use super::*;
+    use crate::{plain, random};
+
+    fn all_agree(network: &Network) {
+        let owned = Owned::of(network);
+        let plain = plain::labelling(network).labels;
+        for label in [steps::label as Label, sorted::label] {
+            let labels = labels(label, &owned.rows());
+            assert!(labels.iter().zip(&plain).all(|(&label, &plain)| label as usize == plain));
+        }
+    }
+
+    #[test]
+    fn baselines_label_shapes_as_the_plain_reading_does() {
+        for shape in SHAPES {
+            for capacity in CAPACITIES {
+                all_agree(&network(shape, MOST_GATES, capacity));
+            }
+        }
+    }
+
+    #[test]
+    fn baselines_label_random_networks_as_the_plain_reading_does() {
+        let mut rng = Rng::new(4);
+        for _ in 0..2_000 {
+            let gates = rng.between(1, 60);
+            let network = random::network(&mut rng, gates);
+            if network.too_heavy().is_none() {
+                all_agree(&network);
+            }
+        }
+    }
+}

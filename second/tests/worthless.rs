@@ -1,0 +1,62 @@
+//! The comparisons find worthless builds out: document 01's four, and an answer with any byte changed.
+
+use second::backends::{Answers, Plain};
+use second::judge::judge;
+use second::rng::Rng;
+use second::{damaged, exhaustive, plain, random, table};
+
+/// Gives an answer made of the text and the right answer.
+struct Build(fn(&[u8], Vec<u8>) -> Vec<u8>);
+
+impl Answers for Build {
+    fn answer(&mut self, text: &[u8]) -> Vec<u8> {
+        self.0(text, plain::answer(text))
+    }
+}
+
+fn refuses_all(_: &[u8], _: Vec<u8>) -> Vec<u8> {
+    b"1E030001\n".to_vec()
+}
+
+fn prints_one_result(_: &[u8], _: Vec<u8>) -> Vec<u8> {
+    plain::answer(b"01000000030004\n020001000100\n0F0001\n")
+}
+
+fn writes_nothing(_: &[u8], _: Vec<u8>) -> Vec<u8> {
+    Vec::new()
+}
+
+/// The labels of all gates but the first are as found: 0.
+fn labels_the_first(_: &[u8], mut answer: Vec<u8>) -> Vec<u8> {
+    for line in answer.split_mut(|&byte| byte == b'\n') {
+        if line.starts_with(b"12") && !line.starts_with(b"120000") {
+            line[6..].fill(b'0');
+        }
+    }
+    answer
+}
+
+#[test]
+fn worthless_builds_fail() {
+    for build in [refuses_all, prints_one_result, writes_nothing, labels_the_first] {
+        assert!(exhaustive::run(&mut Build(build), 2, 1, 1).failed > 0);
+        assert!(random::run(&mut Build(build), 500, 0, 1).failed > 0);
+        assert!(damaged::run(&mut Build(build), 500, 1).failed > 0);
+        assert!(table::run(&mut Build(build)).failed > 0);
+    }
+}
+
+#[test]
+fn no_changed_byte_passes() {
+    let mut rng = Rng::new(2);
+    for _ in 0..200 {
+        let gates = rng.between(1, 8);
+        let text = random::network(&mut rng, gates).text();
+        let answer = Plain.answer(&text);
+        for at in 0..answer.len() {
+            let mut changed = answer.clone();
+            changed[at] ^= 1 << rng.below(8);
+            assert!(judge(&text, &changed).is_err());
+        }
+    }
+}
