@@ -15,4 +15,7 @@ pub mod Exactly
 pub mod Table
 pub mod Room
 pub mod GateLines
+pub mod Variants
+pub mod LinesRead
+pub mod Looking
 mod Cases

@@ -4,3 +4,4 @@ pub mod Says
 pub mod Rows
 pub mod Spelling
 pub mod Shown
+pub mod Passes

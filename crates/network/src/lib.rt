@@ -2,6 +2,8 @@
 // fan-in count of each gate, and its fan-ins, eight places a gate. Every text, and every content of the rows, gets a
 // network or one numbered refusal with its line.
 
+pub mod reading;
+
 // What a text, or rows handed over, answer.
 pub enum Read {
     // the number of gates, the capacity M in cells and the hop delay D in ticks; the gates stand in the rows
