@@ -18,4 +18,5 @@ pub mod GateLines
 pub mod Variants
 pub mod LinesRead
 pub mod Looking
+pub mod Filling
 mod Cases

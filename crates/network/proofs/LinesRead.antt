@@ -37,6 +37,7 @@ use Rattle.network.specs.Reading.{refused, network, at-the-end, walk, no
 use Rattle.network.specs.Passes.{refusal-of, header-only}
 use Rattle.network.proofs.Tests.{never}
 use Rattle.network.proofs.Faultless.{Fit, header-line, gate-line, closed-line}
+use Rattle.network.proofs.Accepted.{walk-closed}
 use Rattle.network.proofs.Table.{walk-clean, walk-faulty}
 
 -- What is read at a place of the text: the text ends there; or its line has a fault; or it is a frame, behind which the
@@ -228,6 +229,23 @@ module _ (text : List ℕ) (at v : ℕ) (r : LineRead) (answers : r ≡ line-rea
           rw (h, ← n′, line) (over-end v (v + 2) n l (lines (drop next′ text)) g (t .other-type)))
           (later-frame v l next′ g)
 
+-- Where a walk that ends in a network reads no gate, it is at its end.
+pub no-more-gates : (text : List ℕ) (at v : ℕ) (r : LineRead) → r ≡ line-read text at (AfterGates v) (v + 2)
+    → OneOf (0 ∷ 2 ∷ 3 ∷ 4 ∷ []) (tagOf the-type r) → (n m : Network)
+    → walk (AfterGates v) (v + 2) n (lines (drop at text)) ≡ network m → n ≡ m
+no-more-gates text at v r answers other n m e = go (viewed-there text at v r answers)
+  where
+    go : View text at (AfterGates v) (v + 2) r → n ≡ m
+    go (nothing h f) = let z = rw h at e in unfold walk in never cc
+    go (faulty l ls k h g f) = let z = sym (walk-faulty (AfterGates v) (v + 2) n l ls k g) ∙ rw h at e in never cc
+    go (clean l next inside ahead h g f) =
+        ⊎-elim
+        (λ (t : GateFrame l next). absurd (miss (0 ∷ 2 ∷ 3 ∷ 4 ∷ []) 1 tt (rw (f ∙ t .framed) at other)))
+        (λ (t : EndFrame l next).
+        walk-closed (v + 2 + 1) n m (lines (drop next text))
+        (sym (over-end v (v + 2) n l (lines (drop next text)) g (t .other-type)) ∙ rw h at e) .1)
+        (later-frame v l next g)
+
 -- Where no frame goes on, the walk tells what was read, or 3 at the line that is missing.
 stops : {text : List ℕ} {at : ℕ} {p : Place} {line : ℕ} {r : LineRead} (n : Network) → View text at p line r
     → (r ≡ read.Nothing → at-the-end p line n ≡ refused 3 line)
@@ -275,6 +293,14 @@ module _ (text : List ℕ) (at line : ℕ) (n : Network) (r : LineRead) where
       go (nothing h f) = rw h (unfold walk in refl)
       go (faulty l ls k h g f) = never cc
       go (clean l next inside ahead h g f) = absurd (closed-line l g)
+
+pub no-network : (r : LineRead) (line : ℕ) (n : Network) → refusal-of r line ≡ network n → ⊥
+unfolding refusal-of
+no-network (read.Header m d next) line n e = never cc
+no-network (read.Gate w d k next) line n e = never cc
+no-network (read.End next) line n e = never cc
+no-network (read.Refused k at) line n e = never cc
+no-network read.Nothing line n e = never cc
 
 -- what was refused is told, whatever weighs
 pub weigh-refusal : (r : LineRead) (line : ℕ) → weigh (refusal-of r line) ≡ refusal-of r line

@@ -5,3 +5,4 @@ pub mod Rows
 pub mod Spelling
 pub mod Shown
 pub mod Passes
+pub mod ReadInto

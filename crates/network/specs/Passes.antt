@@ -1,8 +1,8 @@
 -- What the parts of the two passes over a text answer.
-use Prim.Native.Nat.{ℕ, _+_, _≤_}
+use Prim.Native.Nat.{ℕ, zero, suc, _+_, _≤_}
 use mathlib.Core.Path.{_≡_}
-use mathlib.Core.Bool.{cond, not, _&&_}
-use mathlib.Core.List.{[]}
+use mathlib.Core.Bool.{false, cond, not, _&&_}
+use mathlib.Core.List.{List, [], _∷_}
 use mathlib.Core.Option.{Option, none, some}
 use lib.Dec.{eqb}
 use Rattle.model.specs.Ceilings.{most-capacity, most-hop}
@@ -12,8 +12,10 @@ use Rattle.units.specs.declared.Ticks.{Ticks}
 use Rattle.units.specs.Units.{fits}
 use Rattle.frames.specs.declared.LineRead.{LineRead}
 use Rattle.frames.specs.declared.LineRead.the-variants.{Header, Gate, End, Refused, Nothing}
+use Rattle.frames.specs.Frames.{fan-in-from}
 use Rattle.network.specs.declared.reading.Seen.{Seen}
-use Rattle.network.specs.Reading.{Reading, refused, first-heavy}
+use Rattle.network.specs.Reading.{Reading, refused, network, first-heavy, reading}
+use Rattle.network.specs.Rows.{Rows, too-short}
 
 -- A line that does not go on: its refusal, or 3 at the line that is missing.
 unfoldable pub refusal-of : LineRead → ℕ → Reading
@@ -54,3 +56,15 @@ one-more seen weight =
       gates = seen .gates + 1;
       heavy = heavy-with (seen .heavy) weight (seen .capacity) (seen .gates + 2);
     }
+
+-- the fan-ins of a gate line, so many from one of them on
+unfoldable pub fan-ins-from : List ℕ → ℕ → ℕ → ℕ → List ℕ
+unfolding fan-in-from
+fan-ins-from text at i zero = []
+fan-ins-from text at i (suc k) = fan-in-from text at i ∷ fan-ins-from text at (suc i) k
+
+-- A text is a network's, and the rows have room for it.
+pub record Fits-into (text : List ℕ) (rows : Rows) : Type 0 where
+  pub whole : Network
+  pub reads : reading text ≡ network whole
+  pub room : too-short (size whole) rows ≡ false
