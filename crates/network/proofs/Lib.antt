@@ -19,4 +19,5 @@ pub mod Variants
 pub mod LinesRead
 pub mod Looking
 pub mod Filling
+pub mod ReadInto
 mod Cases

@@ -1,3 +1,4 @@
+use Rattle.network.proofs.ReadInto.{refused-into, short-into, fits-into, filled-into}
 use borrow.Author.Needs.{needs}
 use Rattle.network.proofs.reading.read.Statement.{statement}
 use Rattle.network.proofs.reading.read.Tie as tie
@@ -21,7 +22,9 @@ enum-told c = search needs
 
 -- src/reading.rt:220:9
 returns : tie.Need-returns
-returns c = ?
+returns c =
+    let l = c .before .before .look in
+    refused-into _ _ (l .result) (l .ensures) (c .before .match .keys2)
 
 -- src/reading.rt:222:8
 too-short-requires : tie.Need-too-short-requires
@@ -45,11 +48,16 @@ same-length-4 c = search needs
 
 -- src/reading.rt:223:9
 returns-2 : tie.Need-returns-2
-returns-2 c = ?
+returns-2 c =
+    let l = c .before .before .before .before .before .before .before .before .before .look in
+    short-into _ _ (l .result) (l .ensures) _ _ _ (c .before .before .before .before .before .before .before .seen .given .1) (c .before .too-short .result) (c .before .too-short .ensures) (c .if1 .taken)
 
 -- src/reading.rt:225:5
 fill-rows-requires : tie.Need-fill-rows-requires
-fill-rows-requires c κs = ?
+fill-rows-requires c κs =
+    let e = c .before .before .before .before in
+    let l = e .before .before .before .before .before .before .before .before .before .look in
+    fits-into _ _ (l .result) (l .ensures) _ _ _ (e .before .before .before .before .before .before .before .seen .given .1) (e .before .too-short .result) (e .before .too-short .ensures) (e .if1 .left)
 
 -- src/reading.rt:215:1
 same-length-5 : tie.Need-same-length-5
@@ -69,7 +77,11 @@ same-length-8 c = search needs
 
 -- src/reading.rt:215:1
 returns-3 : tie.Need-returns-3
-returns-3 c = ?
+returns-3 c =
+    let e = c .before .before .before .before .before .before .before .before .before .before .before .before .before in
+    let l = e .before .before .before .before .before .before .before .before .before .look in
+    filled-into _ _ (l .result) (l .ensures) _ _ _ (e .before .before .before .before .before .before .before .seen .given .1) (e .before .too-short .result) (e .before .too-short .ensures) (e .if1 .left) _
+    (c .before .before .before .before .before .before .before .before .fill-rows .ensures)
 
 pub read-spec : {M : Type 1} → statement M
 read-spec =
