@@ -20,4 +20,5 @@ pub mod LinesRead
 pub mod Looking
 pub mod Filling
 pub mod ReadInto
+pub mod Unique
 mod Cases
