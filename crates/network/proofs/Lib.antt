@@ -22,6 +22,11 @@ pub mod Exactly
 pub mod Table
 pub mod Room
 pub mod GateLines
+pub mod Variants
+pub mod LinesRead
+pub mod Looking
+pub mod Filling
+pub mod ReadInto
 mod Cases
 pub mod Puts
 pub mod WrittenLines
