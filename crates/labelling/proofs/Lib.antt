@@ -2,7 +2,9 @@ pub mod Lists
 pub mod Onward
 pub mod Order
 pub mod Growth
-pub mod Label
+pub mod OneLabel
 pub mod Labels
 pub mod Loaded
 pub mod Members
+pub mod Promises
+pub mod Unique
