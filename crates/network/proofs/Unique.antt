@@ -4,13 +4,11 @@ use Prim.Native.Nat.{ℕ}
 use mathlib.Core.Path.{_≡_, sym, _∙_}
 use mathlib.Core.List.{List}
 use denote.Ref.{now}
-use Rattle.network.specs.declared.writing.Written.{Written}
-use Rattle.network.specs.Rows.{Rows}
-use Rattle.network.specs.Writing.{RowsWritten}
 use Rattle.network.proofs.writing.put_byte.Reads as put-byte
 use Rattle.network.proofs.writing.put_word.Reads as put-word
 use Rattle.network.proofs.writing.put_long.Reads as put-long
 use Rattle.network.proofs.writing.put_words.Reads as put-words
+use Rattle.network.proofs.writing.write_line.Reads as write-line
 
 -- Two outcomes that a contract allows for the same arguments are one: the result, and the lent row at exit.
 abbrev pub OneOutcome : {K : Type 0} {A R E : K → Type 0} → ((κs : K) → A κs → R κs → E κs → Type 0) → ((κs : K) → E κs → List ℕ) → Type 0
@@ -33,7 +31,6 @@ put-long-unique κs args r s exit exit′ p q = (same (p .answer) (q .answer), s
 pub put-words-unique : OneOutcome put-words.Learnt (λ κs exit. now (exit .0))
 put-words-unique κs args r s exit exit′ p q = (same (p .answer) (q .answer), same (p .kept) (q .kept))
 
--- The contract of writing a line of rows leaves no second outcome either.
-pub rows-written-unique : {index capacity hop gates : ℕ} {rows : Rows} {out : List ℕ} {r s : Written} {row row′ : List ℕ}
-    → RowsWritten index capacity hop gates rows out r row → RowsWritten index capacity hop gates rows out s row′ → (r ≡ s) × (row ≡ row′)
-rows-written-unique p q = (same (p .answer) (q .answer), same (p .kept) (q .kept))
+-- The row that is written is the last of nine parameters; the others are lent to be read.
+pub write-line-unique : OneOutcome write-line.Learnt (λ κs exit. now (exit .1 .1 .1 .1 .1 .1 .1 .1 .0))
+write-line-unique κs args r s exit exit′ p q = (same (p .answer) (q .answer), same (p .kept) (q .kept))
