@@ -1,10 +1,10 @@
 pub mod Lists
-pub mod Onward
-pub mod Order
-pub mod Growth
-pub mod OneLabel
-pub mod Labels
+pub mod OnwardLaws
+pub mod OrderLaws
+pub mod GrowthLaws
+pub mod LabelLaws
+pub mod LabelsLaws
 pub mod Loaded
-pub mod Members
+pub mod MemberLaws
 pub mod Promises
 pub mod Unique
