@@ -1,7 +1,6 @@
 // A network's text read into lent rows. `look` goes over the text once and writes nothing; where it finds a network for
 // which the rows have room, `fill_rows` goes over the gate lines once more and puts each gate into its places.
 ghost use mathlib.Core.Path.{_≡_};
-ghost use mathlib.Core.List.{[]};
 ghost use Prim.Native.Nat.{ℕ, _+_, _≤_, _<_};
 ghost use lib.ListN.{length, drop};
 ghost use Rattle.model.specs.Ceilings.{most-gates, most-capacity, most-hop};
