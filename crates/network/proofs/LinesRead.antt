@@ -310,3 +310,12 @@ weigh-refusal (read.Gate w d k next) line = refl
 weigh-refusal (read.End next) line = refl
 weigh-refusal (read.Refused k at) line = refl
 weigh-refusal read.Nothing line = refl
+
+-- any variant but `Refused`
+pub not-refused : (r : LineRead) (missing : ℕ) → OneOf (0 ∷ 1 ∷ 2 ∷ 4 ∷ []) (tagOf the-type r) → refusal-of r missing ≡ refused 3 missing
+unfolding refusal-of
+not-refused (read.Header m d next) missing h = refl
+not-refused (read.Gate w d k next) missing h = refl
+not-refused (read.End next) missing h = refl
+not-refused (read.Refused k at) missing h = absurd (miss (0 ∷ 1 ∷ 2 ∷ 4 ∷ []) 3 tt h)
+not-refused read.Nothing missing h = refl

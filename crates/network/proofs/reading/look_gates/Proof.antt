@@ -8,7 +8,7 @@ use lib.ListN.{length}
 use borrow.Author.Needs.{needs}
 use Rattle.network.specs.Reading.{weigh}
 use Rattle.network.specs.Shown.{shown}
-use Rattle.network.proofs.LinesRead.{gate-read, end-read, no-gate-or-end}
+use Rattle.network.proofs.LinesRead.{GateRead, gate-read, end-read, no-gate-or-end}
 use Rattle.network.proofs.Looking.{refusal-told, Going, set-out, go-on}
 use Rattle.network.proofs.reading.look_gates.Statement.{statement}
 use Rattle.network.proofs.reading.look_gates.Tie as tie
@@ -18,6 +18,15 @@ Inv-loop text first at₀ seen₀ at seen = Going text first seen₀ at seen
 
 abbrev μ-loop : tie.MeasureT-loop
 μ-loop text first at₀ seen₀ at seen = length text - at
+
+-- the gate that was read
+the-gate : (c : tie.After-known-told Inv-loop μ-loop)
+    → GateRead (c .before .before .before .before .before .before .args .text .now) (c .before .before .before .before .loop .at) (c .before .before .before .before .loop .seen .gates) (c .before .read .given .0 .0) (c .before .read .given .0 .1 .0) (c .before .read .given .0 .1 .1 .0) (c .before .read .given .0 .1 .1 .1 .0)
+the-gate c =
+    let a = c .before .before .before .before .before .before .args in
+    let l = c .before .before .before .before .loop in
+    let r = c .before .before .before .read-line in
+    gate-read (a .text .now) (l .at) (l .seen .gates) (r .result) (r .ensures) _ _ _ _ (c .before .read .given .1)
 
 loop-holds : tie.Need-loop-holds Inv-loop μ-loop
 loop-holds c =
@@ -63,27 +72,18 @@ returns-2 c =
     c .look-end .ensures (l .inv .so-far) (l .inv .known) ∙ ap (λ w. shown (weigh w)) (sym on ∙ l .inv .same)
 
 with-gate-requires : tie.Need-with-gate-requires Inv-loop μ-loop
-with-gate-requires c κs =
-    let a = c .before .before .before .before .before .before .args in
-    let l = c .before .before .before .before .loop in
-    let r = c .before .before .before .read-line in
-    gate-read (a .text .now) (l .at) (l .seen .gates) (r .result) (r .ensures) _ _ _ _ (c .before .read .given .1) .fit .number
+with-gate-requires c κs = the-gate c .fit .number
 
 loop-less : tie.Need-loop-less Inv-loop μ-loop
 loop-less c =
-    let a = c .before .before .before .before .before .before .before .args in
-    let l = c .before .before .before .before .before .loop in
-    let r = c .before .before .before .before .read-line in
-    let g = gate-read (a .text .now) (l .at) (l .seen .gates) (r .result) (r .ensures) _ _ _ _ (c .before .before .read .given .1) in
+    let g = the-gate (c .before) in
     omega (arith, g .inside, g .ahead)
 
 loop-again : tie.Need-loop-again Inv-loop μ-loop
 loop-again c =
     let a = c .before .before .before .before .before .before .before .args in
     let l = c .before .before .before .before .before .loop in
-    let r = c .before .before .before .before .read-line in
-    let g = gate-read (a .text .now) (l .at) (l .seen .gates) (r .result) (r .ensures) _ _ _ _ (c .before .before .read .given .1) in
-    rw (c .with-gate .ensures) (go-on (a .text .now) (a .first) _ (l .at) (l .seen) _ _ _ _ (l .inv) g)
+    rw (c .with-gate .ensures) (go-on (a .text .now) (a .first) _ (l .at) (l .seen) _ _ _ _ (l .inv) (the-gate (c .before)))
 
 pub look-gates-spec : {M : Type 1} → statement M
 look-gates-spec =

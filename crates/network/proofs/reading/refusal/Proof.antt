@@ -4,7 +4,7 @@ use Rattle.network.proofs.reading.refusal.Statement.{statement}
 use Rattle.network.proofs.reading.refusal.Tie as tie
 use Rattle.network.specs.Shown.{shown}
 use Rattle.network.specs.Passes.{refusal-of}
-use Rattle.network.proofs.Variants.{not-refused}
+use Rattle.network.proofs.LinesRead.{not-refused}
 
 enum-known-read : tie.Need-enum-known-read
 enum-known-read c = search needs
