@@ -1,4 +1,4 @@
-//! With the feature `staticlib`: links every archive found in the directory that LYKOPHENE_STATICLIB
+//! With the feature `staticlib` or `bench`: links every archive found in the directory that LYKOPHENE_STATICLIB
 //! names, by default ../target/staticlib.
 
 use std::path::PathBuf;
@@ -7,7 +7,7 @@ use std::{env, fs};
 fn main() {
     println!("cargo:rerun-if-changed=build.rs");
     println!("cargo:rerun-if-env-changed=LYKOPHENE_STATICLIB");
-    if env::var_os("CARGO_FEATURE_STATICLIB").is_none() {
+    if ["CARGO_FEATURE_STATICLIB", "CARGO_FEATURE_BENCH"].iter().all(|name| env::var_os(name).is_none()) {
         return;
     }
     let package = PathBuf::from(env::var_os("CARGO_MANIFEST_DIR").expect("cargo names the package"));

@@ -107,17 +107,97 @@ fn time(label: Label, rows: &Rows) -> Duration {
     (0..20).map(|_| run()).min().expect("twenty runs")
 }
 
-/// A table of the times of both baselines in microseconds, for 64 to 512 gates.
+/// The labelling under test, linked from the static library.
+#[cfg(feature = "bench")]
+mod proved {
+    unsafe extern "C" {
+        fn lykophene_label(
+            capacity: u32,
+            hop: u16,
+            gates: usize,
+            weights: *const u16,
+            weights_len: usize,
+            delays: *const u16,
+            delays_len: usize,
+            counts: *const u8,
+            counts_len: usize,
+            fanins: *const u16,
+            fanins_len: usize,
+            labels: *mut u32,
+            labels_len: usize,
+        ) -> u8;
+    }
+
+    #[allow(clippy::too_many_arguments)]
+    pub fn label(
+        capacity: u32,
+        hop: u16,
+        gates: usize,
+        weights: &[u16],
+        delays: &[u16],
+        counts: &[u8],
+        fanins: &[u16],
+        labels: &mut [u32],
+    ) {
+        // The function requires nothing of its arguments, and writes only within the slice of labels.
+        let refusal = unsafe {
+            lykophene_label(
+                capacity,
+                hop,
+                gates,
+                weights.as_ptr(),
+                weights.len(),
+                delays.as_ptr(),
+                delays.len(),
+                counts.as_ptr(),
+                counts.len(),
+                fanins.as_ptr(),
+                fanins.len(),
+                labels.as_mut_ptr(),
+                labels.len(),
+            )
+        };
+        assert_eq!(refusal, 0, "an accepted network");
+    }
+}
+
+/// The labellings that are timed: the baselines and, if it is linked, the proved one.
+fn timed() -> Vec<(&'static str, Label)> {
+    let mut timed = vec![("steps", steps::label as Label), ("sorted", sorted::label)];
+    #[cfg(feature = "bench")]
+    timed.push(("proved", proved::label));
+    timed
+}
+
+/// A table of times in microseconds, for 64 to 512 gates, and of the proved labelling's time by each baseline's.
 pub fn times() -> String {
-    let mut table = format!("{:>8} {:>5} {:>5} {:>10} {:>10}\n", "shape", "M", "gates", "steps", "sorted");
+    let timed = timed();
+    let mut table = format!("{:>8} {:>5} {:>5}", "shape", "M", "gates");
+    for (name, _) in &timed {
+        table += &format!(" {name:>10}");
+    }
+    if timed.len() > 2 {
+        table += &format!(" {:>12} {:>13}", "proved/steps", "proved/sorted");
+    }
+    table += "\n";
     for shape in SHAPES {
         for capacity in CAPACITIES {
             for gates in [64, 128, 256, 512] {
                 let owned = Owned::of(&network(shape, gates, capacity));
-                let [steps, sorted] = [steps::label as Label, sorted::label]
-                    .map(|label| time(label, &owned.rows()).as_secs_f64() * 1e6);
-                let shape = format!("{shape:?}");
-                table += &format!("{shape:>8} {capacity:>5} {gates:>5} {steps:>10.1} {sorted:>10.1}\n");
+                let expected = labels(steps::label, &owned.rows());
+                let mut times = Vec::new();
+                for (name, label) in &timed {
+                    assert_eq!(labels(*label, &owned.rows()), expected, "{name} gives other labels");
+                    times.push(time(*label, &owned.rows()).as_secs_f64() * 1e6);
+                }
+                table += &format!("{:>8} {capacity:>5} {gates:>5}", format!("{shape:?}"));
+                for time in &times {
+                    table += &format!(" {time:>10.1}");
+                }
+                if let [steps, sorted, proved] = times[..] {
+                    table += &format!(" {:>12.2} {:>13.2}", proved / steps, proved / sorted);
+                }
+                table += "\n";
             }
         }
     }
