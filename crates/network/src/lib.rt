@@ -6,6 +6,9 @@ pub mod reading;
 pub mod rows;
 pub mod writing;
 
+// "Text 24,576 bytes."
+const MOST_TEXT: usize = 24_576;
+
 // What a text, or rows handed over, answer.
 pub enum Read {
     // the number of gates, the capacity M in cells and the hop delay D in ticks; the gates stand in the rows

@@ -14,7 +14,9 @@ ghost use Rattle.network.specs.Rows.{rows-of, too-short, filled};
 ghost use Rattle.network.specs.Shown.{shown};
 ghost use Rattle.network.specs.Passes.{refusal-of, heavy-with, Known, header-only, one-more, fan-ins-from, Fits-into};
 ghost use Rattle.network.specs.ReadInto.{ReadInto};
+use crate::MOST_TEXT;
 use crate::Read;
+use crate::rows::too_short;
 use frames::LineRead;
 use frames::Place;
 use units::Cells;
@@ -133,9 +135,6 @@ fn look_gates(text: &[u8], first: usize, capacity: Cells, hop: Ticks) -> Read
     }
 }
 
-// "Text 24,576 bytes."
-const MOST_TEXT: usize = 24_576;
-
 // What the text answers, the rows left out.
 fn look(text: &[u8]) -> Read
     ensures { λ r. ⌜ r ≡ shown (reading (now (text .entry))) ⌝ }
@@ -208,22 +207,6 @@ fn fill_rows(
         at = next;
         gates += 1;
     }
-}
-
-// Whether a row is shorter than so many gates need.
-fn too_short(gates: usize, weights: &[u16], delays: &[u16], counts: &[u8], fanins: &[u16]) -> bool
-    ensures { λ r. ⌜ r ≡ too-short gates (rows-of (now (weights .entry)) (now (delays .entry)) (now (counts .entry)) (now (fanins .entry))) ⌝ }
-{
-    if weights.len() < gates {
-        return true;
-    }
-    if delays.len() < gates {
-        return true;
-    }
-    if counts.len() < gates {
-        return true;
-    }
-    fanins.len() / FanInCount::MOST < gates
 }
 
 // Reads a network's text into the rows. A refusal leaves every row as it was; a network stands in them gate by gate, and

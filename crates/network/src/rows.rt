@@ -1,5 +1,6 @@
 // Rows handed over: what they answer, found without spelling them. The faults that the spelled text can have are looked
 // for in document 01's order, and the first one found decides; rows without fault are a network.
+use crate::MOST_TEXT;
 use crate::Read;
 use units::Cells;
 use units::Counted;
@@ -25,9 +26,6 @@ ghost use Rattle.network.specs.RowsCheck.{
 };
 ghost use Rattle.network.specs.Checked.{checked};
 
-// "Text 24,576 bytes."
-const MOST_TEXT: usize = 24_576;
-
 // The bytes of the two lines that every network has, its header's and its end's.
 const OUTER_LINES: usize = 22;
 
@@ -47,7 +45,13 @@ enum Fault {
 }
 
 // 10: whether a row is too short for so many gates. Their eightfold is not formed, since 64 bits may not hold it.
-fn too_short(gates: usize, weights: &[u16], delays: &[u16], counts: &[u8], fanins: &[u16]) -> bool
+pub(crate) fn too_short(
+    gates: usize,
+    weights: &[u16],
+    delays: &[u16],
+    counts: &[u8],
+    fanins: &[u16],
+) -> bool
     ensures { λ r. ⌜ r ≡ too-short gates (rows-of (now (weights .entry)) (now (delays .entry)) (now (counts .entry)) (now (fanins .entry))) ⌝ }
 {
     weights.len() < gates
