@@ -1,0 +1,7 @@
+pub mod Lists
+pub mod Onward
+pub mod Order
+pub mod Growth
+pub mod Label
+pub mod Labels
+pub mod Loaded

@@ -1,0 +1,3 @@
+pub mod Standing
+pub mod Growing
+pub mod Loaded

@@ -1,0 +1,80 @@
+-- How a network stands in the rows that labelling is lent, and what the rows must keep to.
+use Prim.Native.Nat.{ℕ, suc, _+_, _*_, _≤_, _<_, _^_}
+use mathlib.Core.Path.{_≡_}
+use mathlib.Core.List.{List, [], _∷_}
+use mathlib.Core.Bool.{cond}
+use lib.Dec.{ltb}
+use lib.ListN.{length, getD, take, drop}
+use Rattle.model.specs.Basics.{_∈_}
+use Rattle.model.specs.Ceilings.{most-gates, most-fanins, most-delay}
+use Rattle.model.specs.Onward.{reach, in-cone}
+use Rattle.model.specs.Label.{pull, place, ordered}
+use Rattle.model.specs.Network.{Network, size, weight, delay, fanins as fanins-of}
+
+-- the row has a place for each gate that a network can have
+abbrev pub Whole : List ℕ → Type 0
+Whole row = length row ≡ most-gates
+
+-- every number of the list is below k
+abbrev pub Below : ℕ → List ℕ → Type 0
+Below k xs = (x : ℕ) → x ∈ xs → x < k
+
+-- the fan-ins of gate v, as the rows have them
+abbrev pub row-fanins : List ℕ → List ℕ → ℕ → List ℕ
+row-fanins counts fanins v = take (getD counts v 0) (drop (most-fanins * v) fanins)
+
+-- The rows have room for k gates, and the fan-ins of each are gates below it.
+pub record Wired (k : ℕ) (delays counts fanins : List ℕ) : Type 0 where
+  pub few : k ≤ most-gates
+  pub delays-room : k ≤ length delays
+  pub counts-room : k ≤ length counts
+  pub fanins-room : most-fanins * k ≤ length fanins
+  pub counted : (v : ℕ) → v < k → getD counts v 0 ≤ most-fanins
+  pub below : (v : ℕ) → v < k → Below v (row-fanins counts fanins v)
+
+-- The first k gates of the network have the delays and the fan-ins that stand in the rows.
+pub record Timed (n : Network) (k : ℕ) (delays counts fanins : List ℕ) : Type 0 where
+  pub known : k ≤ size n
+  pub delay-at : (v : ℕ) → v < k → delay n v ≡ getD delays v 0
+  pub fanins-at : (v : ℕ) → v < k → fanins-of n v ≡ row-fanins counts fanins v
+
+-- The first k gates of the network have the weights that stand in the row, and it has this capacity.
+pub record Weighed (n : Network) (k capacity : ℕ) (weights : List ℕ) : Type 0 where
+  pub capacity-is : n .capacity ≡ capacity
+  pub weight-at : (v : ℕ) → v < k → weight n v ≡ getD weights v 0
+
+-- "by pull, larger first": no gate of the list pulls more than one before it.
+pub data Falls (pulls : ℕ → ℕ) : List ℕ → Type 0 where
+  end : Falls pulls []
+  first : {x : ℕ} {xs : List ℕ} → ((y : ℕ) → y ∈ xs → pulls y ≤ pulls x) → Falls pulls xs → Falls pulls (x ∷ xs)
+
+-- the pull of a gate, as the row has it
+abbrev pub pull-in : List ℕ → ℕ → ℕ
+pull-in row u = getD row u 0
+
+-- the ordered row when the gate u has been looked at
+abbrev pub seated : List ℕ → List ℕ → ℕ → List ℕ → List ℕ
+seated onward pulls u row = cond (ltb 0 (getD onward u 0)) (place (pull-in pulls) u row) row
+
+-- The rows tell, of the gates below v, which of them lie in the cone of v and how much they pull.
+pub record Pulled (n : Network) (labels : List ℕ) (v : ℕ) (onward pulls : List ℕ) : Type 0 where
+  pub cone : (u : ℕ) → u < v → in-cone n u v ≡ ltb 0 (getD onward u 0)
+  pub pull-of : (u : ℕ) → u < v → pull n labels v u ≡ pull-in pulls u
+
+-- The first `count` gates of the row are those of the cone of v, v excepted, by pull.
+pub record Arranged (v : ℕ) (onward pulls row : List ℕ) (count : ℕ) : Type 0 where
+  pub whole : Whole row
+  pub few : count ≤ v
+  pub gates : Below v (take count row)
+  pub order : (n : Network) (labels : List ℕ) → Pulled n labels v onward pulls → take count row ≡ ordered n labels v
+
+-- The row tells the onward delays to v of the gates up to v, coded as the model's row. No entry comes near 64 bits.
+pub record Reached (n : Network) (v : ℕ) (row : List ℕ) : Type 0 where
+  pub entries : take (suc v) row ≡ take (suc v) (reach n v)
+  pub small : (u : ℕ) → getD row u 0 ≤ most-delay * suc v + 1
+
+-- The cone of v, v excepted, in the two rows: how much each gate pulls, and the gates by pull.
+pub record InOrder (n : Network) (labels : List ℕ) (v : ℕ) (pulls row : List ℕ) (count : ℕ) : Type 0 where
+  pub pull-of : (u : ℕ) → u < v → pull n labels v u ≡ pull-in pulls u
+  pub small : (u : ℕ) → u < v → pull-in pulls u < 2 ^ 33
+  pub order : take count row ≡ ordered n labels v
