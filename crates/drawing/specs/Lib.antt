@@ -1,3 +1,4 @@
 -- Document 01, "Frames": what a text answers, line by line.
 pub mod Result
 pub mod Demands
+pub mod Selection

@@ -1,1 +1,3 @@
 // Selection, and the result a line at a time.
+
+mod selection;
