@@ -1,3 +1,4 @@
 pub mod Demands
 pub mod Examples
 pub mod Marks
+pub mod Unread

@@ -2,7 +2,7 @@
 use Prim.Native.Nat.{ℕ, _*_, _≤_, _<_, max}
 use mathlib.Core.Bool.{cond}
 use mathlib.Core.List.{List, map}
-use lib.Dec.{eqb}
+use lib.Dec.{eqb, ltb}
 use lib.ListN.{length, getD, replicate}
 use Rattle.model.specs.Basics.{keep, gather, upto, largest}
 use Rattle.model.specs.Ceilings.{most-gates, most-fanins}
@@ -37,3 +37,11 @@ largest-label labels gates = largest (map (λ v. getD labels v 0) gates)
 -- the larger of a time and a gate's label, if the gate has no mark
 abbrev pub or-label : ℕ → ℕ → ℕ → ℕ
 or-label time mark label = cond (eqb mark 0) (max time label) time
+
+-- the gates of a list without a mark among those inside
+unfoldable pub outside : List ℕ → List ℕ → List ℕ
+outside inside gates = keep (λ x. eqb (getD inside x 0) 0) gates
+
+-- the gates below k with a mark, rising: the roots of the drawn clusters
+unfoldable pub roots : List ℕ → ℕ → List ℕ
+roots marks k = keep (λ r. ltb 0 (getD marks r 0)) (upto k)

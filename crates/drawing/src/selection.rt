@@ -4,14 +4,24 @@ use units::FanInCount;
 use units::GateNumber;
 use units::Ticks;
 ghost use mathlib.Core.Path.{_≡_};
-ghost use mathlib.Core.List.{_++_};
-ghost use Prim.Native.Nat.{ℕ, _≤_, _<_, _^_};
-ghost use lib.ListN.{length, drop, replicate};
+ghost use mathlib.Core.Bool.{cond};
+ghost use Prim.Native.Nat.{_≤_, _<_};
+ghost use lib.Dec.{eqb};
+ghost use lib.ListN.{length, getD, set, replicate};
 ghost use Rattle.model.specs.Basics.{upto};
 ghost use Rattle.model.specs.Ceilings.{most-gates};
 ghost use Rattle.model.specs.Drawing.{mark};
 ghost use Rattle.labelling.specs.Standing.{Below};
-ghost use Rattle.drawing.specs.Selection.{Placed, fanins-of, unmarked, unread, largest-label, or-label};
+ghost use Rattle.drawing.specs.Selection.{
+  Placed,
+  fanins-of,
+  unmarked,
+  unread,
+  largest-label,
+  or-label,
+  outside,
+  roots,
+};
 
 // A mark for each gate.
 type Marks = [u8; GateNumber::MOST_GATES];
@@ -69,4 +79,98 @@ pub(crate) fn output_delay(gates: usize, counts: &[u8], fanins: &[u16], labels: 
     let mut read = [0; GateNumber::MOST_GATES];
     reads(&mut read, gates, counts, fanins);
     largest_unmarked(&read, gates, labels).0 as u32
+}
+
+// The mark that a gate starts with: 1 where no gate reads it.
+fn output_mark(read: u8) -> u8
+    ensures { λ r. ⌜ r ≡ cond (eqb read 0) 1 0 ⌝ }
+{
+    if read == 0 { 1 } else { 0 }
+}
+
+// A mark for each gate that has none in the other row, and for no other.
+fn mark_unmarked(row: &Marks, marks: &mut [u8])
+    requires { ⌜ length (now marks) ≤ most-gates ⌝ }
+    ensures { λ _. ⌜ now (marks .exit)
+        ≡ mark (replicate (length (now (marks .entry))) 0) (unmarked (now (row .entry)) (length (now (marks .entry)))) ⌝ }
+{
+    for v in 0..marks.len() {
+        marks[v] = output_mark(row[v]);
+    }
+}
+
+// "The clusters of all primary outputs are drawn.": a mark for each of them, and for no other gate.
+fn mark_outputs(counts: &[u8], fanins: &[u16], marks: &mut [u8])
+    requires { ⌜ Placed (length (now marks)) (now counts) (now fanins) ⌝ }
+    ensures { λ _. ⌜ now (marks .exit)
+        ≡ mark (replicate (length (now (marks .entry))) 0) (unread (now (counts .entry)) (now (fanins .entry)) (length (now (marks .entry)))) ⌝ }
+{
+    let mut read = [0; GateNumber::MOST_GATES];
+    reads(&mut read, marks.len(), counts, fanins);
+    mark_unmarked(&read, marks);
+}
+
+// A mark for the gate x, if it lies outside.
+fn mark_if_outside(marks: &mut [u8], inside: &Marks, x: usize)
+    requires { ⌜ (x < most-gates) × (x < length (now marks)) ⌝ }
+    ensures { λ _. ⌜ now (marks .exit) ≡ cond (eqb (getD (now (inside .entry)) x 0) 0) (set (now (marks .entry)) x 1) (now (marks .entry)) ⌝ }
+{
+    if inside[x] == 0 {
+        marks[x] = 1;
+    }
+}
+
+// A mark for each gate of a list that lies outside.
+fn mark_outside(marks: &mut [u8], inside: &Marks, gates: &[u16])
+    requires { ⌜ Below (length (now marks)) (now gates) × (length (now marks) ≤ most-gates) ⌝ }
+    ensures { λ _. ⌜ now (marks .exit) ≡ mark (now (marks .entry)) (outside (now (inside .entry)) (now (gates .entry))) ⌝ }
+{
+    for i in 0..gates.len() {
+        mark_if_outside(marks, inside, gates[i] as usize);
+    }
+}
+
+// A mark for each input of a cluster: "gates outside it that are fan-ins of a member".
+fn mark_inputs(marks: &mut [u8], inside: &Marks, counts: &[u8], fanins: &[u16], members: &[u16])
+    requires { ⌜ Placed (length (now marks)) (now counts) (now fanins) × Below (length (now marks)) (now members) ⌝ }
+    ensures { λ _. ⌜ now (marks .exit)
+        ≡ mark (now (marks .entry)) (outside (now (inside .entry)) (fanins-of (now (counts .entry)) (now (fanins .entry)) (now (members .entry)))) ⌝ }
+{
+    for i in 0..members.len() {
+        let member = members[i] as usize;
+        let from = FanInCount::MOST * member;
+        let to = from + counts[member] as usize;
+        mark_outside(marks, inside, &fanins[from..to]);
+    }
+}
+
+// How many of the gates have a mark.
+pub(crate) fn count_marked(gates: usize, marks: &[u8]) -> usize
+    requires { ⌜ gates ≤ length (now marks) ⌝ }
+    ensures { λ r. ⌜ r ≡ length (roots (now (marks .entry)) gates) ⌝ }
+{
+    let mut count = 0;
+    for v in 0..gates {
+        if marks[v] != 0 {
+            count += 1;
+        }
+    }
+    count
+}
+
+// The marked gate of that index, counted from 0.
+pub(crate) fn nth_marked(gates: usize, marks: &[u8], index: usize) -> usize
+    requires { ⌜ (gates ≤ length (now marks)) × (index < length (roots (now marks) gates)) ⌝ }
+    ensures { λ r. ⌜ r ≡ getD (roots (now (marks .entry)) gates) index 0 ⌝ }
+{
+    let mut left = index;
+    for v in 0..gates {
+        if marks[v] != 0 {
+            if left == 0 {
+                return v;
+            }
+            left -= 1;
+        }
+    }
+    gates
 }

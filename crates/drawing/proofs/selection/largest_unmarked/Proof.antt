@@ -43,12 +43,11 @@ loop-less c = search needs
 loop-again : tie.Need-loop-again Inv-loop μ-loop
 loop-again c =
     let b = c .before .before .before .before in
-    let a = b .before .before .args in
-    (
+    let a = b .before .before .args in (
       omega arith,
       c .or-label .ensures
-      ∙ ap (λ (t : ℕ). or-label t (getD (a .row .now) (b .loop .v) 0) (getD (a .labels .now) (b .loop .v) 0)) (b .loop .inv .1)
-      ∙ largest-next (a .labels .now) (a .row .now) (b .loop .v),
+          ∙ ap (λ (t : ℕ). or-label t (getD (a .row .now) (b .loop .v) 0) (getD (a .labels .now) (b .loop .v) 0)) (b .loop .inv .1)
+          ∙ largest-next (a .labels .now) (a .row .now) (b .loop .v),
     )
 
 returns : tie.Need-returns Inv-loop μ-loop

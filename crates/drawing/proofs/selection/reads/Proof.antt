@@ -67,12 +67,11 @@ loop-less c = search needs
 loop-again : tie.Need-loop-again Inv-loop μ-loop
 loop-again c =
     let l = c .before .before .before .before .before in
-    let a = l .before .before .before .args in
-    (
+    let a = l .before .before .before .args in (
       omega arith,
       c .mark .ensures
-      ∙ rw (← part-is (a .counts .now) (a .fanins .now) (l .loop .v), l .loop .inv .1)
-      (fanins-next (a .counts .now) (a .fanins .now) (a .read .now) (l .loop .v)),
+          ∙ rw (← part-is (a .counts .now) (a .fanins .now) (l .loop .v), l .loop .inv .1)
+          (fanins-next (a .counts .now) (a .fanins .now) (a .read .now) (l .loop .v)),
     )
 
 returns : tie.Need-returns Inv-loop μ-loop
