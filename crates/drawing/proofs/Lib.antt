@@ -2,3 +2,4 @@ pub mod Demands
 pub mod Examples
 pub mod Marks
 pub mod Unread
+pub mod ResultLines

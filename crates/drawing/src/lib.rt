@@ -1,3 +1,4 @@
 // Selection, and the result a line at a time.
 
+pub mod result;
 mod selection;
