@@ -3,3 +3,4 @@ pub mod Examples
 pub mod Marks
 pub mod Unread
 pub mod ResultLines
+pub mod Selected
