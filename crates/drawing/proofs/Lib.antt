@@ -4,3 +4,4 @@ pub mod Marks
 pub mod Unread
 pub mod ResultLines
 pub mod Selected
+pub mod LineAt

@@ -135,14 +135,14 @@ unfolding upto
 length-upto zero = refl
 length-upto (suc k) = omega (arith, length-append (upto k) (k ∷ []), length-upto k)
 
-map-upto : (f : ℕ → ℕ) (k v : ℕ) → v < k → getD (map f (upto k)) v 0 ≡ f v
+pub map-upto : {A : Type 0} (f : ℕ → A) (k v : ℕ) (d : A) → v < k → getD (map f (upto k)) v d ≡ f v
 unfolding upto
-map-upto f zero v h = absurd (omega arith)
-map-upto f (suc k) v h =
+map-upto f zero v d h = absurd (omega arith)
+map-upto f (suc k) v d h =
     let long = length-map (upto k) f ∙ length-upto k in
-    ap (λ (r : List ℕ). getD r v 0) (map-append f (upto k) (k ∷ []))
-    ∙ ⊎-elim (λ (e : v ≡ k). rw e (getD-at (map f (upto k)) (f k) [] 0 k long))
-    (λ (e : v ≡ k → ⊥). List·getD-append (map f (upto k)) (f k ∷ []) 0 v (omega arith) ∙ map-upto f k v (omega arith))
+    ap (λ (r : List _). getD r v d) (map-append f (upto k) (k ∷ []))
+    ∙ ⊎-elim (λ (e : v ≡ k). rw e (getD-at (map f (upto k)) (f k) [] d k long))
+    (λ (e : v ≡ k → ⊥). List·getD-append (map f (upto k)) (f k ∷ []) d v (omega arith) ∙ map-upto f k v d (omega arith))
     (same-or-not v k)
 
 -- so many marks in front, the rest of the row as it was
@@ -185,7 +185,7 @@ started-all row marks₀ marks v e s =
     (omega (arith, length-map (upto v) (start-mark row), length-upto v, length-mark (replicate v 0) (keep unread (upto v)), length-replicate {A = ℕ} v 0))
     (λ i h.
     let below : i < v = omega (arith, length-map (upto v) (start-mark row), length-upto v) in
-    map-upto (start-mark row) v i below
+    map-upto (start-mark row) v i 0 below
     ∙ sym
     (mark-at (replicate v 0) (keep unread (upto v)) i (omega (arith, length-replicate {A = ℕ} v 0))
     ∙ rw (member-keep unread v i below, getD-replicate {A = ℕ} v i 0 0 below)))

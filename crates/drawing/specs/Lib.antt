@@ -2,3 +2,4 @@
 pub mod Result
 pub mod Demands
 pub mod Selection
+pub mod Drawn
