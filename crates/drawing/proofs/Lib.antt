@@ -5,3 +5,4 @@ pub mod Unread
 pub mod ResultLines
 pub mod Selected
 pub mod LineAt
+pub mod SameLabels
