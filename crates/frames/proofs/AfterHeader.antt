@@ -9,7 +9,7 @@ use Rattle.frames.specs.declared.Place.the-variants.{Opening, AfterGates
 use Rattle.frames.specs.declared.LineRead.the-variants.{Refused}
 use Rattle.frames.specs.Text.{Line}
 use Rattle.frames.specs.Table.{malformed, misplaced, kind}
-use Rattle.frames.specs.Frames.{line-from, byte-from, judged}
+use Rattle.frames.specs.Frames.{judged, line-from, byte-from}
 use Rattle.frames.proofs.Formed.{Formed, formed, any-place}
 use Rattle.frames.proofs.Rows.{judged-3}
 use Rattle.frames.proofs.OfLine.{kind-is}

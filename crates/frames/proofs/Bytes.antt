@@ -1,15 +1,13 @@
 -- The bytes, words and longs of a line are those that its digits spell in the text: byte i stands at digits 2i and 2i + 1.
-use Prim.Native.Nat.{ℕ, zero, suc, _+_, _*_, _-_, _/_, _%_, _≤_, _<_}
+use Prim.Native.Nat.{ℕ, zero, suc, _+_, _*_, _/_, _%_, _≤_, _<_}
 use mathlib.Core.Path.{_≡_, refl, sym, ap, ap₂, _∙_}
-use mathlib.Core.Bool.{Bool, true, false}
 use mathlib.Core.List.{List, [], _∷_}
-use native.Mathlib.Numerals.{add-one}
 use native.Mathlib.Omega.{arith}
 use lib.ListN.{length, getD, drop, take}
 use lib.Seq.{slice, length-slice, getD-drop, getD-take}
 use lib.Dec.{eqb}
 use Rattle.frames.specs.Text.{digit, even, bytes, word-at, long-at, words}
-use Rattle.frames.specs.Frames.{digit-at, byte-from, word-from, long-from}
+use Rattle.frames.specs.Frames.{byte-from, word-from, long-from}
 
 pub length-bytes : (ds : List ℕ) → length (bytes ds) ≡ length ds / 2
 unfolding bytes

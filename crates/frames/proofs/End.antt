@@ -1,7 +1,7 @@
 -- What a well-formed line of type 0F answers after the header and so many gates, in the words of the code.
 use Prim.Native.Nat.{ℕ, _+_, _-_}
-use mathlib.Core.Path.{_≡_, refl, sym, ap, _∙_}
-use mathlib.Core.Bool.{true, false, not}
+use mathlib.Core.Path.{_≡_, sym, ap, _∙_}
+use mathlib.Core.Bool.{false, not}
 use mathlib.Core.List.{List}
 use native.Mathlib.Omega.{arith}
 use lib.ListN.{length}
@@ -12,7 +12,7 @@ use Rattle.frames.specs.declared.Place.the-variants.{Opening, AfterGates
 use Rattle.frames.specs.declared.LineRead.the-variants.{End, Refused}
 use Rattle.frames.specs.Text.{Line}
 use Rattle.frames.specs.Table.{malformed, misplaced, wrong-length, one-too-many, unordered, miscounted, no-gates, kind, frame-length, end-count}
-use Rattle.frames.specs.Frames.{line-from, byte-from, word-from, frame, judged}
+use Rattle.frames.specs.Frames.{frame, judged, line-from, byte-from, word-from}
 use Rattle.frames.proofs.Formed.{Formed, formed, any-place}
 use Rattle.frames.proofs.Rows.{judged-4, judged-7, judged-8, judged-frame}
 use Rattle.frames.proofs.OfLine.{kind-is, length-is, next-is, end-count-is}

@@ -1,13 +1,13 @@
 -- Row 2 as the code tests it: a line is malformed where it is empty, not ended, of an odd length or holds no digit; and
 -- what a line that is not malformed is known to be.
 use Prim.Native.Nat.{ℕ, _-_, _%_, _≤_, _<_}
-use mathlib.Core.Path.{_≡_, refl, sym, ap, _∙_}
+use mathlib.Core.Path.{_≡_, refl, sym, _∙_}
 use mathlib.Core.Bool.{Bool, true, false, not, _||_, or-true, or-false}
-use mathlib.Core.List.{List, [], _∷_}
+use mathlib.Core.List.{List}
 use native.Mathlib.Omega.{arith}
-use lib.ListN.{length, drop, take, length-take, drop-of-length-le}
+use lib.ListN.{length, take, length-take, drop-of-length-le}
 use lib.Seq.{slice, slice-cons, length-slice}
-use lib.Dec.{ltb, eqb}
+use lib.Dec.{ltb}
 use borrow.Author.Tests.{ltb-true, ltb-false, lt-ltb, le-ltb, eqb-true, eqb-false, eq-eqb, ne-eqb}
 use Rattle.frames.specs.declared.Place.{Place}
 use Rattle.frames.specs.Text.{Line, all-digits, even}
@@ -55,7 +55,8 @@ module _ (p : Place) (text : List ℕ) (at end : ℕ) where
   malformed-digits f =
       let h : end ≤ length text = omega arith in
       rw
-      (tests p text at end, some-there (f .begun) h, even-length (slice at end text), length-slice at end text h, eq-eqb ((end - at) % 2) 0 (f .whole), lt-ltb end (length text) (f .ended), or-false, or-false)
+      (tests p text at end, some-there (f .begun) h, even-length (slice at end text), length-slice at end text h, eq-eqb ((end - at) % 2) 0 (f .whole), lt-ltb end (length text) (f .ended))
+      (or-false _ ∙ or-false _)
 
   pub formed : malformed p (line-from text at end) ≡ false → Formed text at end
   formed e =

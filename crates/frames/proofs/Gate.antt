@@ -1,7 +1,7 @@
 -- What a well-formed line of type 02 answers after the header and so many gates, in the words of the code.
 use Prim.Native.Nat.{ℕ, _+_, _*_, _-_, _≤_, _<_}
-use mathlib.Core.Path.{_≡_, refl, sym, ap, ap₂, _∙_}
-use mathlib.Core.Bool.{Bool, true, false, not, _||_, or-true}
+use mathlib.Core.Path.{_≡_, sym, ap, ap₂, _∙_}
+use mathlib.Core.Bool.{true, false, not, _||_, or-true}
 use mathlib.Core.List.{List}
 use native.Mathlib.Omega.{arith}
 use native.Mathlib.Decide.{decLt}
@@ -16,7 +16,7 @@ use Rattle.frames.specs.declared.Place.the-variants.{Opening, AfterGates
 use Rattle.frames.specs.declared.LineRead.the-variants.{Gate, Refused}
 use Rattle.frames.specs.Text.{Line, bytes, words}
 use Rattle.frames.specs.Table.{malformed, misplaced, wrong-length, one-too-many, unordered, miscounted, no-gates, rising-from, kind, frame-length, gate-count, gate-fanins, gate-of}
-use Rattle.frames.specs.Frames.{line-from, byte-from, word-from, frame, judged}
+use Rattle.frames.specs.Frames.{frame, judged, line-from, byte-from, word-from}
 use Rattle.frames.proofs.Formed.{Formed, formed, any-place}
 use Rattle.frames.proofs.Rows.{judged-4, judged-5, judged-6, judged-frame}
 use Rattle.frames.proofs.OfLine.{kind-is, length-is, next-is, count-is, weight-is, delay-is, fanins-are}

@@ -2,11 +2,10 @@
 -- the digits between `at` and `end`.
 use Prim.Native.Nat.{ℕ, _+_, _-_}
 use mathlib.Core.Path.{_≡_, refl, sym, ap, _∙_}
-use mathlib.Core.Bool.{true, false, not}
+use mathlib.Core.Bool.{false, not}
 use mathlib.Core.List.{List}
 use native.Mathlib.Omega.{arith}
 use lib.ListN.{length}
-use lib.Seq.{slice}
 use lib.Dec.{eqb}
 use borrow.Author.Tests.{eq-eqb, ne-eqb}
 use Rattle.units.specs.Units.{cells, ticks}
@@ -15,7 +14,7 @@ use Rattle.frames.specs.declared.Place.the-variants.{Opening}
 use Rattle.frames.specs.declared.LineRead.the-variants.{Header, Refused}
 use Rattle.frames.specs.Text.{Line}
 use Rattle.frames.specs.Table.{malformed, misplaced, wrong-length, one-too-many, unordered, miscounted, no-gates, kind, frame-length, header-capacity, header-hop}
-use Rattle.frames.specs.Frames.{line-from, byte-from, word-from, long-from, frame, judged}
+use Rattle.frames.specs.Frames.{frame, judged, line-from, byte-from, word-from, long-from}
 use Rattle.frames.proofs.Formed.{Formed, formed}
 use Rattle.frames.proofs.Rows.{judged-3, judged-4, judged-frame}
 use Rattle.frames.proofs.OfLine.{kind-is, length-is, next-is, capacity-is, hop-is}
@@ -38,6 +37,10 @@ opening-frame at line l two three four = judged-frame at Opening line l two thre
 header-frame : (l : Line) (next : ℕ) → kind l ≡ 0x01 → frame l next ≡ Header (cells (header-capacity l)) (ticks (header-hop l)) next
 unfolding frame
 header-frame l next k = simp (eq-eqb (kind l) 0x01 k)
+
+-- Headers of the same numbers are the same.
+pub same-header : {c c′ h h′ : ℕ} (next : ℕ) → c ≡ c′ → h ≡ h′ → Header (cells c) (ticks h) next ≡ Header (cells c′) (ticks h′) next
+same-header next p q = λ i. Header (cells (p i)) (ticks (q i)) next
 
 module _ (text : List ℕ) (at end line : ℕ) (two : malformed Opening (line-from text at end) ≡ false) where
   form : Formed text at end

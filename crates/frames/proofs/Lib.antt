@@ -15,3 +15,4 @@ pub mod End
 pub mod Lines
 pub mod Unique
 pub mod FanIns
+pub mod Told

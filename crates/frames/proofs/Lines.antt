@@ -1,5 +1,5 @@
 -- The first line of a text is what stands up to its line feed.
-use Prim.Native.Nat.{ℕ, zero, suc, _+_, _-_, _≤_, _<_}
+use Prim.Native.Nat.{ℕ, zero, suc, _+_, _≤_, _<_}
 use mathlib.Core.Path.{_≡_, refl, sym, ap, ap₂, _∙_}
 use mathlib.Core.Bool.{Bool, true, false, cond}
 use mathlib.Core.List.{List, [], _∷_}
@@ -12,7 +12,7 @@ use borrow.Author.Tests.{lt-ltb, le-ltb}
 use Rattle.frames.specs.declared.Place.{Place}
 use Rattle.frames.specs.declared.LineRead.the-variants.{Nothing}
 use Rattle.frames.specs.Text.{Line, line-feed, begin, lines}
-use Rattle.frames.specs.Frames.{line-length, line-from, judged, first-read, line-read}
+use Rattle.frames.specs.Frames.{judged, first-read, line-read, line-length, line-from}
 
 pub length-most : (bs : List ℕ) → line-length bs ≤ length bs
 unfolding line-length

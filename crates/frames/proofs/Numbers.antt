@@ -1,15 +1,14 @@
 -- Numbers in a text: how large they can be, and what stands past the end.
-use Prim.Native.Nat.{ℕ, _+_, _*_, _-_, _≤_, _<_}
+use Prim.Native.Nat.{ℕ, _+_, _-_, _≤_}
 use mathlib.Core.Path.{_≡_, refl}
 use mathlib.Core.Bool.{Bool, true, false, cond, _&&_}
-use mathlib.Core.List.{List, [], _∷_}
-use mathlib.Core.Logic.{_⊎_, inl, inr, ⊎-elim}
+use mathlib.Core.List.{List}
 use native.Mathlib.Omega.{arith}
 use lib.ListN.{length, getD, List·getD-eq-default}
 use lib.Dec.{leb}
 use borrow.Author.Tests.{leb-true}
 use Rattle.frames.specs.Text.{digit}
-use Rattle.frames.specs.Frames.{digit-at, byte-from, word-from, long-from}
+use Rattle.frames.specs.Frames.{digit-at, byte-from, word-from}
 
 pub digit-most : (b : ℕ) → digit b ≤ 16
 unfolding digit

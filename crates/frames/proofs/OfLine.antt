@@ -1,12 +1,11 @@
 -- What the table reads in a line, as the code reads it in the text.
-use Prim.Native.Nat.{ℕ, suc, _+_, _*_, _-_, _/_, _%_, _≤_, _<_}
-use mathlib.Core.Path.{_≡_, refl, sym, ap, ap₂, _∙_}
-use mathlib.Core.Bool.{Bool, true, false}
-use mathlib.Core.List.{List, [], _∷_}
+use Prim.Native.Nat.{ℕ, suc, _+_, _*_, _-_, _/_, _≤_, _<_}
+use mathlib.Core.Path.{_≡_, refl, ap, ap₂, _∙_}
+use mathlib.Core.List.{List}
 use native.Mathlib.Omega.{arith}
 use lib.ListN.{length, getD, drop, take, length-drop}
 use lib.Seq.{slice, length-slice, getD-drop, drop-drop}
-use Rattle.frames.specs.Text.{Line, bytes, word-at, words}
+use Rattle.frames.specs.Text.{bytes, word-at, words}
 use Rattle.frames.specs.Table.{kind, frame-length, header-capacity, header-hop, gate-count, gate-fanins, gate-of, end-count}
 use Rattle.frames.specs.Frames.{line-from, byte-from, word-from, long-from, fan-in-from}
 use Rattle.frames.proofs.Formed.{Formed}

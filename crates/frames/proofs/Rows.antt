@@ -7,7 +7,6 @@ use native.Mathlib.Omega.{arith}
 use lib.ListN.{length}
 use Rattle.frames.specs.declared.Place.{Place}
 use Rattle.frames.specs.declared.Place.the-variants.{Closed}
-use Rattle.frames.specs.declared.LineRead.{LineRead}
 use Rattle.frames.specs.declared.LineRead.the-variants.{Refused}
 use Rattle.frames.specs.Text.{Line}
 use Rattle.frames.specs.Table.{malformed, misplaced, wrong-length, one-too-many, unordered, miscounted, no-gates, fault}

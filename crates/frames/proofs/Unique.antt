@@ -1,6 +1,6 @@
 -- No second outcome meets a contract of `frames`. Each statement is about the contract itself: `Learnt` is what the
 -- function's `ensures` says of the arguments, the result and the parameters at exit.
-use mathlib.Core.Path.{_≡_, sym, _∙_}
+use mathlib.Core.Path.{sym, _∙_}
 use contract.Lifetimes.{Lfts}
 use Rattle.units.proofs.Unique.{OneOutcome}
 use Rattle.frames.proofs.read_line.Reads as read-line

@@ -1,13 +1,12 @@
 -- What a walk along the text leaves to do: a line's length, and whether digits are left to test.
-use Prim.Native.Nat.{ℕ, suc, _+_, _-_, _≤_, _<_}
-use mathlib.Core.Path.{_≡_, refl, ap, _∙_}
-use mathlib.Core.Bool.{Bool, true, false, cond, _&&_, and-false}
+use Prim.Native.Nat.{ℕ, suc, _+_, _≤_, _<_}
+use mathlib.Core.Path.{_≡_, refl, sym, ap, _∙_}
+use mathlib.Core.Bool.{true, false, and-false}
 use mathlib.Core.List.{List, [], _∷_}
 use native.Mathlib.Numerals.{add-one, towards-suc}
 use native.Mathlib.Omega.{arith}
 use lib.ListN.{length, getD, drop, take, drop-of-length-le, length-take}
 use lib.Seq.{drop-cons, slice, slice-cons, length-slice}
-use lib.Dec.{ltb, eqb}
 use borrow.Author.Tests.{eq-eqb, ne-eqb, lt-ltb, le-ltb, le-leb, lt-leb}
 use Rattle.frames.specs.Text.{line-feed, digit, all-digits, bytes, words}
 use Rattle.frames.specs.Table.{rising-from}
@@ -41,7 +40,7 @@ pub digits-bad : (text : List ℕ) (i end : ℕ) → i < end → end ≤ length 
 unfolding all-digits
 digits-bad text i end h k d = rw (slice-cons i end text 0 h k) (simp (le-ltb (digit (getD text i 0)) 16 (omega arith)))
 
-pub words-none : (text : List ℕ) (k end : ℕ) → end < k + 4 → end ≤ length text → words (bytes (slice k end text)) ≡ []
+words-none : (text : List ℕ) (k end : ℕ) → end < k + 4 → end ≤ length text → words (bytes (slice k end text)) ≡ []
 words-none text k end h fits =
     empty (words (bytes (slice k end text)))
     (omega (arith, length-words (bytes (slice k end text)), length-bytes (slice k end text), length-slice k end text fits))
@@ -50,7 +49,7 @@ words-none text k end h fits =
     empty [] e = refl
     empty (x ∷ xs) e = absurd (omega arith)
 
-pub words-more : (text : List ℕ) (k end : ℕ) → k + 4 ≤ end → end ≤ length text
+words-more : (text : List ℕ) (k end : ℕ) → k + 4 ≤ end → end ≤ length text
     → words (bytes (slice k end text)) ≡ word-from text k ∷ words (bytes (slice (k + 4) end text))
 unfolding words bytes word-from
 words-more text k end h fits =
@@ -58,20 +57,25 @@ words-more text k end h fits =
     (slice-cons k end text 0 (omega arith) fits, slice-cons (suc k) end text 0 (omega arith) fits, slice-cons (suc (suc k)) end text 0 (omega arith) fits, slice-cons (suc (suc (suc k))) end text 0 (omega arith) fits)
     (simp towards-suc)
 
--- The fan-ins left to test: none, or one more that is in its place, too low, or too high.
-pub rising-none : (least bound : ℕ) (xs : List ℕ) → xs ≡ [] → rising-from least bound xs ≡ true
+-- The fan-ins left to test from a place on: none, or one more that is in its place, too low, or too high.
+pub rising-none : (text : List ℕ) (k end least bound : ℕ) → end < k + 4 → end ≤ length text
+    → rising-from least bound (words (bytes (slice k end text))) ≡ true
 unfolding rising-from
-rising-none least bound xs e = rw e
+rising-none text k end least bound h fits = rw (words-none text k end h fits)
 
-module _ (least bound x : ℕ) (xs rest : List ℕ) (e : xs ≡ x ∷ rest) where
-  pub rising-more : least ≤ x → x < bound → rising-from least bound xs ≡ rising-from (x + 1) bound rest
-  unfolding rising-from
-  rising-more low high = rw (e, add-one) (simp (le-leb least x low, lt-ltb x bound high))
+module _ (text : List ℕ) (k end least bound x : ℕ) (room : k + 4 ≤ end) (fits : end ≤ length text) (is : x ≡ word-from text k) where
+  next-word : words (bytes (slice k end text)) ≡ x ∷ words (bytes (slice (k + 4) end text))
+  next-word = words-more text k end room fits ∙ ap (λ w. w ∷ words (bytes (slice (k + 4) end text))) (sym is)
 
-  pub rising-low : x < least → rising-from least bound xs ≡ false
+  pub rising-more : least ≤ x → x < bound
+      → rising-from least bound (words (bytes (slice k end text))) ≡ rising-from (x + 1) bound (words (bytes (slice (k + 4) end text)))
   unfolding rising-from
-  rising-low h = rw e (simp (lt-leb least x h))
+  rising-more low high = rw (next-word, add-one) (simp (le-leb least x low, lt-ltb x bound high))
 
-  pub rising-high : bound ≤ x → rising-from least bound xs ≡ false
+  pub rising-low : x < least → rising-from least bound (words (bytes (slice k end text))) ≡ false
   unfolding rising-from
-  rising-high h = rw e (simp (le-ltb x bound h, and-false))
+  rising-low h = rw next-word (simp (lt-leb least x h))
+
+  pub rising-high : bound ≤ x → rising-from least bound (words (bytes (slice k end text))) ≡ false
+  unfolding rising-from
+  rising-high h = rw next-word (simp (le-ltb x bound h, and-false))

@@ -1,6 +1,6 @@
 -- What reading one line answers: document 01's "Each line read gives either a frame or a refusal number with its line."
-use Prim.Native.Nat.{ℕ, zero, suc, _+_, _*_}
-use mathlib.Core.Bool.{Bool, cond}
+use Prim.Native.Nat.{ℕ, suc, _+_, _*_}
+use mathlib.Core.Bool.{cond}
 use mathlib.Core.List.{List, [], _∷_}
 use mathlib.Core.Option.{Option, none, some}
 use lib.ListN.{length, getD, drop}
@@ -43,7 +43,7 @@ unfoldable pub line-read : List ℕ → ℕ → Place → ℕ → LineRead
 unfolding first-read lines
 line-read text at p line = first-read at p line (lines (drop at text))
 
--- Numbers in the text, from a place on. A place past its end holds no digit.
+-- Numbers in the text, from a place on. What `getD` gives past its end, 0, is no digit.
 unfoldable pub digit-at : List ℕ → ℕ → ℕ
 unfolding digit
 digit-at text k = digit (getD text k 0)

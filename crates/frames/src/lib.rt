@@ -5,13 +5,13 @@
 // `fan_in` reads one fan-in of a gate line. Numbers are read with digits that are none counting 16, so that no number
 // has to be refused before its line is.
 ghost use mathlib.Core.Path.{_≡_};
-ghost use mathlib.Core.Bool.{true, false, not};
-ghost use Prim.Native.Nat.{_+_, _*_, _^_, _≤_, _<_};
+ghost use mathlib.Core.Bool.{false, not};
+ghost use Prim.Native.Nat.{_+_, _^_, _≤_, _<_};
 ghost use lib.ListN.{length, drop};
 ghost use lib.Seq.{slice};
-ghost use Rattle.frames.specs.Text as text-of;
-ghost use Rattle.frames.specs.Table.{malformed, kind, rising-from};
-ghost use Rattle.frames.specs.Frames.{digit-at, byte-from, word-from, long-from, fan-in-from, line-from, line-length, judged, line-read};
+ghost use Rattle.frames.specs.Text.{digit, all-digits, bytes, words};
+ghost use Rattle.frames.specs.Table.{malformed, rising-from};
+ghost use Rattle.frames.specs.Frames.{judged, line-read, digit-at, byte-from, word-from, long-from, fan-in-from, line-length, line-from};
 ghost use Rattle.frames.specs.declared.Place.the-variants.{Opening, AfterGates};
 use units::Cells;
 use units::Counted;
@@ -50,15 +50,40 @@ pub enum LineRead {
     Nothing,
 }
 
-// What a byte counts for as a digit, 16 where it is none.
+// The refusal numbers that one line can give, lowest first. An empty line, a bad digit, an odd digit count, or a last
+// line that is not ended:
+const MALFORMED: u8 = 2;
+
+// An unknown or misplaced type:
+const MISPLACED: u8 = 3;
+
+// A frame length wrong for its type or count, or a count above 8:
+const WRONG_LENGTH: u8 = 4;
+
+// A 513th gate:
+const ONE_TOO_MANY: u8 = 5;
+
+// A fan-in not rising or not below its gate:
+const UNORDERED: u8 = 6;
+
+// An 0F count that differs:
+const MISCOUNTED: u8 = 7;
+
+// An 0F with no gates before it:
+const NO_GATES: u8 = 8;
+
+// What a byte counts for that is no digit.
+const NO_DIGIT: u8 = 16;
+
+// What a byte counts for as a digit.
 fn digit(b: u8) -> u8
-    ensures { λ r. ⌜ r ≡ text-of.digit b ⌝ }
+    ensures { λ r. ⌜ r ≡ digit b ⌝ }
 {
     match b {
         b'0'..=b'9' => b - b'0',
         // A counts ten.
         b'A'..=b'F' => b - b'A' + 10,
-        _ => 16,
+        _ => NO_DIGIT,
     }
 }
 
@@ -69,7 +94,7 @@ fn digit_at(text: &[u8], k: usize) -> u64
     if k < text.len() {
         digit(text[k]) as u64
     } else {
-        16
+        NO_DIGIT as u64
     }
 }
 
@@ -97,8 +122,15 @@ fn long_at(text: &[u8], k: usize) -> u64
     65_536 * word_at(text, k) + word_at(text, k + 4)
 }
 
-// The first fan-in of a gate line stands behind twelve digits: type, weight, delay and fan-in count.
+// Digits of a whole header: two for its type, eight for M and four for D.
+const HEADER_DIGITS: usize = 14;
+
+// Digits of a gate before its fan-ins: two for its type, four for the weight, four for the delay and two for the count
+// of fan-ins. Each fan-in has four.
 const BEFORE_FAN_INS: usize = 12;
+
+// Digits of a whole end: two for its type and four for the number of gates.
+const END_DIGITS: usize = 6;
 
 // Four digits that are none, each counting 16.
 const NO_FAN_IN: u32 = 69_904;
@@ -132,11 +164,11 @@ fn line_end(text: &[u8], at: usize) -> usize
 // Whether every byte from `at` up to `end` is a digit.
 fn all_digits(text: &[u8], at: usize, end: usize) -> bool
     requires { ⌜ end ≤ length (now text) ⌝ }
-    ensures { λ r. ⌜ r ≡ text-of.all-digits (slice at end (now (text .entry))) ⌝ }
+    ensures { λ r. ⌜ r ≡ all-digits (slice at end (now (text .entry))) ⌝ }
 {
     let mut i = at;
     while i < end {
-        if digit(text[i]) == 16 {
+        if digit(text[i]) == NO_DIGIT {
             return false;
         }
         i += 1;
@@ -147,10 +179,10 @@ fn all_digits(text: &[u8], at: usize, end: usize) -> bool
 // Whether the line from `at` up to `end` is of the right form: not empty, ended, an even number of digits and nothing
 // else. Refusal 2 is given where it is not.
 fn well_formed(text: &[u8], at: usize, end: usize) -> bool
-    requires { ⌜ end ≤ length (now text) ⌝ }
+    requires { ⌜ (at ≤ end) × (end ≤ length (now text)) ⌝ }
     ensures { λ r. ⌜ r ≡ not (malformed Opening (line-from (now (text .entry)) at end)) ⌝ }
 {
-    if end <= at {
+    if end == at {
         return false;
     }
     if text.len() <= end {
@@ -163,24 +195,33 @@ fn well_formed(text: &[u8], at: usize, end: usize) -> bool
     all_digits(text, at, end)
 }
 
-// The types of a network's frames.
+// The type of a header.
 const HEADER_TYPE: u64 = 0x01;
 
+// The type of a gate.
 const GATE_TYPE: u64 = 0x02;
 
+// The type of an end.
 const END_TYPE: u64 = 0x0F;
 
-// A well-formed line that opens the text: a header frame has seven bytes, the type, M (4) and D (2).
+// A well-formed line that opens the text: 3 by its type, 4 by its length, or a header.
 fn read_header(text: &[u8], at: usize, end: usize, line: usize) -> LineRead
     requires { ⌜ malformed Opening (line-from (now text) at end) ≡ false ⌝ }
     ensures { λ r. ⌜ r ≡ judged at Opening line (line-from (now (text .entry)) at end) ⌝ }
 {
     if byte_at(text, at) != HEADER_TYPE {
-        return LineRead::Refused { number: 3, line };
+        return LineRead::Refused {
+            number: MISPLACED,
+            line,
+        };
     }
-    if end - at != 14 {
-        return LineRead::Refused { number: 4, line };
+    if end - at != HEADER_DIGITS {
+        return LineRead::Refused {
+            number: WRONG_LENGTH,
+            line,
+        };
     }
+    // M stands behind the type, D behind M.
     LineRead::Header {
         capacity: Cells(long_at(text, at + 2)),
         hop: Ticks(word_at(text, at + 10)),
@@ -191,7 +232,7 @@ fn read_header(text: &[u8], at: usize, end: usize, line: usize) -> LineRead
 // Whether the numbers of four digits from `from` up to `end` rise strictly and are all below a gate's own number.
 fn rising(text: &[u8], from: usize, end: usize, gate: GateNumber) -> bool
     requires { ⌜ (from ≤ end) × (end ≤ length (now text)) ⌝ }
-    ensures { λ r. ⌜ r ≡ rising-from 0 (gate .0) (text-of.words (text-of.bytes (slice from end (now (text .entry))))) ⌝ }
+    ensures { λ r. ⌜ r ≡ rising-from 0 (gate .0) (words (bytes (slice from end (now (text .entry))))) ⌝ }
 {
     let bound = gate.0 as u64;
     let mut least = 0;
@@ -207,25 +248,39 @@ fn rising(text: &[u8], from: usize, end: usize, gate: GateNumber) -> bool
     true
 }
 
-// A well-formed line of type 02, after a header and so many gates: 4 by its length and count, 5 by its number, 6 by its
-// fan-ins.
+// A well-formed line of type 02, after a header and so many gates: 4 by its count or length, 5 by its number, 6 by its
+// fan-ins, or a gate.
 fn read_gate(text: &[u8], at: usize, end: usize, gates: usize, line: usize) -> LineRead
     requires { ⌜ (malformed Opening (line-from (now text) at end) ≡ false) × (byte-from (now text) at ≡ 0x02) ⌝ }
     ensures { λ r. ⌜ r ≡ judged at (AfterGates gates) line (line-from (now (text .entry)) at end) ⌝ }
 {
+    // The count of fan-ins stands behind type, weight and delay.
     let fan_ins = byte_at(text, at + 10) as usize;
     let Counted::Made(count) = FanInCount::new(fan_ins) else {
-        return LineRead::Refused { number: 4, line };
+        return LineRead::Refused {
+            number: WRONG_LENGTH,
+            line,
+        };
     };
     if end - at != BEFORE_FAN_INS + 4 * fan_ins {
-        return LineRead::Refused { number: 4, line };
+        return LineRead::Refused {
+            number: WRONG_LENGTH,
+            line,
+        };
     }
     let Numbered::Made(gate) = GateNumber::new(gates) else {
-        return LineRead::Refused { number: 5, line };
+        return LineRead::Refused {
+            number: ONE_TOO_MANY,
+            line,
+        };
     };
     if !rising(text, at + BEFORE_FAN_INS, end, gate) {
-        return LineRead::Refused { number: 6, line };
+        return LineRead::Refused {
+            number: UNORDERED,
+            line,
+        };
     }
+    // The weight stands behind the type, the delay behind the weight.
     LineRead::Gate {
         weight: Cells(word_at(text, at + 2)),
         delay: Ticks(word_at(text, at + 6)),
@@ -234,20 +289,30 @@ fn read_gate(text: &[u8], at: usize, end: usize, gates: usize, line: usize) -> L
     }
 }
 
-// A well-formed line of type 0F, after a header and so many gates: an end frame has three bytes, the type and the
-// number of gates (2).
+// A well-formed line of type 0F, after a header and so many gates: 4 by its length, 7 by its count, 8 where there was no
+// gate, or an end.
 fn read_end(text: &[u8], at: usize, end: usize, gates: usize, line: usize) -> LineRead
     requires { ⌜ (malformed Opening (line-from (now text) at end) ≡ false) × (byte-from (now text) at ≡ 0x0F) ⌝ }
     ensures { λ r. ⌜ r ≡ judged at (AfterGates gates) line (line-from (now (text .entry)) at end) ⌝ }
 {
-    if end - at != 6 {
-        return LineRead::Refused { number: 4, line };
+    if end - at != END_DIGITS {
+        return LineRead::Refused {
+            number: WRONG_LENGTH,
+            line,
+        };
     }
+    // The number of gates stands behind the type.
     if word_at(text, at + 2) != gates as u64 {
-        return LineRead::Refused { number: 7, line };
+        return LineRead::Refused {
+            number: MISCOUNTED,
+            line,
+        };
     }
     if gates == 0 {
-        return LineRead::Refused { number: 8, line };
+        return LineRead::Refused {
+            number: NO_GATES,
+            line,
+        };
     }
     LineRead::End { next: end + 1 }
 }
@@ -264,7 +329,10 @@ fn read_after_header(text: &[u8], at: usize, end: usize, gates: usize, line: usi
     if kind == END_TYPE {
         return read_end(text, at, end, gates, line);
     }
-    LineRead::Refused { number: 3, line }
+    LineRead::Refused {
+        number: MISPLACED,
+        line,
+    }
 }
 
 // The line that begins at `at`, by what stood before it: its frame and where the next line begins, or the lowest number
@@ -277,11 +345,17 @@ pub fn read_line(text: &[u8], at: usize, place: Place, line: usize) -> LineRead
     }
     let end = line_end(text, at);
     if !well_formed(text, at, end) {
-        return LineRead::Refused { number: 2, line };
+        return LineRead::Refused {
+            number: MALFORMED,
+            line,
+        };
     }
     match place {
         Place::Opening => read_header(text, at, end, line),
         Place::AfterGates(gates) => read_after_header(text, at, end, gates, line),
-        Place::Closed => LineRead::Refused { number: 3, line },
+        Place::Closed => LineRead::Refused {
+            number: MISPLACED,
+            line,
+        },
     }
 }

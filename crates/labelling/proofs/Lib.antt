@@ -5,3 +5,4 @@ pub mod Growth
 pub mod Label
 pub mod Labels
 pub mod Loaded
+pub mod Members

@@ -1,3 +1,4 @@
 pub mod Standing
 pub mod Growing
 pub mod Loaded
+pub mod Members

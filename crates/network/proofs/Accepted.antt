@@ -36,16 +36,17 @@ unless-network none at r m e = (refl, e)
 unless-network (some k) at r m e = never cc
 
 -- nothing stands behind the end
-walk-closed : (at : ℕ) (n m : Network) (ls : List Line) → walk Closed at n ls ≡ network m → (ls ≡ []) × (n ≡ m)
+pub walk-closed : (at : ℕ) (n m : Network) (ls : List Line) → walk Closed at n ls ≡ network m → (ls ≡ []) × (n ≡ m)
 unfolding walk
 walk-closed at n m [] e = (refl, cc)
 walk-closed at n m (l ∷ ls) e = absurd (closed-line l (unless-network (fault Closed l) at _ m e .0))
 
-record Gates (v : ℕ) (n m : Network) (ls : List Line) : Type 0 where
-  rest : List Gate
+-- what the walk over gate lines and the end collects
+pub record Gates (v : ℕ) (n m : Network) (ls : List Line) : Type 0 where
+  pub rest : List Gate
   capacity : m .capacity ≡ n .capacity
   hop : m .hop ≡ n .hop
-  gates : m .gates ≡ n .gates ++ rest
+  pub gates : m .gates ≡ n .gates ++ rest
   some-gate : 0 < v + length rest
   fit : AllFit v rest
   ended : AllEnded ls
@@ -85,7 +86,7 @@ the-end v n m l ls g e f =
       again = rw (e, c) (append-nil (line-text l) ∙ sym (g .again));
     }
 
-walk-gates : (ls : List Line) (v at : ℕ) (n m : Network) → walk (AfterGates v) at n ls ≡ network m → Gates v n m ls
+pub walk-gates : (ls : List Line) (v at : ℕ) (n m : Network) → walk (AfterGates v) at n ls ≡ network m → Gates v n m ls
 unfolding walk
 walk-gates [] v at n m e = never cc
 walk-gates (l ∷ ls) v at n m e =

@@ -1,30 +1,23 @@
 -- What `rows::check` answers, by the fault that is found.
-use Prim.Native.Nat.{ℕ, zero, suc, _+_, _≤_}
-use mathlib.Core.Path.{_≡_, refl, sym, _∙_, ap}
-use mathlib.Core.List.{List, [], _∷_, map}
-use native.Mathlib.Omega.{arith}
-use lib.ListN.{length, length-map, length-append}
-use Rattle.model.specs.Basics.{upto}
+use Prim.Native.Nat.{ℕ, _≤_}
+use mathlib.Core.Path.{_≡_, sym, _∙_, ap}
+use mathlib.Core.List.{List}
 use Rattle.model.specs.Ceilings.{most-capacity, most-hop}
 use Rattle.model.specs.Network.{size}
 use Rattle.network.specs.declared.rows.Fault.{Fault}
 use Rattle.network.specs.declared.rows.Fault.the-variants.{None, At}
 use Rattle.network.specs.declared.Read.the-variants as Read
 use Rattle.network.specs.Reading.{network}
-use Rattle.network.specs.Rows.{Rows, row-gate, rows-network}
-use Rattle.network.specs.RowsCheck.{rows-of, rows-fault, unless-fault, rows-check}
+use Rattle.network.specs.Rows.{Rows, rows-of, row-gate, rows-network}
+use Rattle.network.specs.RowsCheck.{rows-fault, unless-fault, rows-check}
 use Rattle.network.specs.Shown.{shown}
 use Rattle.network.specs.Checked.{checked}
+use Rattle.network.proofs.Made.{length-made}
 use Rattle.network.proofs.RowsCheck.{InRange, rows-answer-check}
 
-length-upto : (k : ℕ) → length (upto k) ≡ k
-unfolding upto
-length-upto zero = refl
-length-upto (suc k) = length-append (upto k) (k ∷ []) ∙ omega (arith, length-upto k)
-
-rows-network-size : (capacity hop gates : ℕ) (rows : Rows) → size (rows-network capacity hop gates rows) ≡ gates
+pub rows-network-size : (capacity hop gates : ℕ) (rows : Rows) → size (rows-network capacity hop gates rows) ≡ gates
 unfolding size rows-network
-rows-network-size capacity hop gates rows = length-map (upto gates) (row-gate rows) ∙ length-upto gates
+rows-network-size capacity hop gates rows = length-made (row-gate rows) gates
 
 module _ (capacity hop gates : ℕ) (weights delays counts fanins : List ℕ) (c : capacity ≤ most-capacity) (d : hop ≤ most-hop) (fit : InRange (rows-of weights delays counts fanins)) where
   shown-check : shown (rows-check capacity hop gates (rows-of weights delays counts fanins)) ≡ checked capacity hop gates weights delays counts fanins

@@ -1,6 +1,6 @@
 -- Laws of the faults of specs/RowsCheck.antt, as the code walks them.
-use Prim.Native.Nat.{ℕ, zero, suc, _+_, _*_, _/_, _-_, _≤_, _<_, min}
-use mathlib.Core.Path.{_≡_, refl, sym, _∙_, ap}
+use Prim.Native.Nat.{ℕ, suc, _+_, _*_, _/_, _-_, _≤_, _<_, min}
+use mathlib.Core.Path.{_≡_, refl, sym, _∙_}
 use mathlib.Core.Bool.{Bool, true, false, cond, not, _&&_}
 use mathlib.Core.List.{List}
 use mathlib.Core.Option.{none, some}
@@ -10,7 +10,7 @@ use native.Mathlib.Omega.{arith}
 use borrow.Author.Tests.{lt-ltb, le-ltb, le-leb, lt-leb, eq-eqb, ne-eqb}
 use lib.ListN.{length, getD, take, drop, drop-of-length-le}
 use lib.Seq.{drop-cons}
-use lib.Dec.{leb, ltb, eqb}
+use lib.Dec.{leb, ltb}
 use Rattle.model.specs.Ceilings.{most-gates, most-fanins}
 use Rattle.frames.specs.Table.{rising-from}
 use Rattle.network.specs.declared.rows.Fault.{Fault}
@@ -18,7 +18,9 @@ use Rattle.network.specs.declared.rows.Fault.the-variants.{None, At}
 use Rattle.network.specs.Rows.{Rows, too-short}
 use Rattle.network.specs.RowsCheck.{fault-if, told, first-of, gate-length, gates-length, too-long, gate-fault, first-fault, heavy-fault, first-heavy-fault, rows-fault}
 
--- a row of l places has room for eight places a gate
+-- 10
+
+-- a row of l places has fewer than eight a gate
 pub eighth : (l gates : ℕ) → ltb (l / 8) gates ≡ ltb l (8 * gates)
 eighth l gates =
     elim (decLt l (8 * gates)) [
@@ -26,16 +28,15 @@ eighth l gates =
       | no h ↦ le-ltb (l / 8) gates (omega arith) ∙ sym (le-ltb l (8 * gates) (omega arith))
     ]
 
--- What is found of the gates from v on, done gate by gate: at v, and then from the next one on. A loop that is at v has
+-- gate by gate
+
+-- What is found of the gates from v on: what is found at v, and then from the next one on. A loop that is at v has
 -- the gates from v on before it.
 module _ {A : Type 0} (from : ℕ → ℕ → A) (at : ℕ → A → A) (step : (v k : ℕ) → from v (suc k) ≡ at v (from (suc v) k)) where
   turn : (v gates : ℕ) → v < gates → from v (gates - v) ≡ at v (from (v + 1) (gates - (v + 1)))
   turn v gates h =
       let c : gates - v ≡ suc (gates - (v + 1)) = omega arith in
       rw (c, step v (gates - (v + 1)), add-one v)
-
-  over : (v gates : ℕ) → gates ≤ v → from v (gates - v) ≡ from v 0
-  over v gates h = let c : gates - v ≡ 0 = omega arith in rw c
 
 -- Where a gate has no fault the gates after it decide; where it has one it decides.
 module _ (from : ℕ → ℕ → Fault) (here : ℕ → Fault) (step : (v k : ℕ) → from v (suc k) ≡ first-of (here v) (from (suc v) k)) where
@@ -82,7 +83,7 @@ gates-length-turn counts = turn (gates-length counts) (λ v n. gate-length (getD
 
 pub gates-length-over : (counts : List ℕ) (v gates : ℕ) → gates ≤ v → gates-length counts v (gates - v) ≡ 0
 unfolding gates-length
-gates-length-over counts = over (gates-length counts) (λ v n. gate-length (getD counts v 0) + n) (λ v k. refl)
+gates-length-over counts v gates h = let c : gates - v ≡ 0 = omega arith in rw c
 
 -- 6
 

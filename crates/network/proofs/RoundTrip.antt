@@ -105,16 +105,27 @@ pub record ReadBack (capacity hop gates : ℕ) (rows : Rows) (n : Network) : Typ
   pub same-network : n ≡ rows-network capacity hop gates rows
   pub same-rows : fill 0 (n .gates) rows ≡ rows
 
+few-read : (capacity gates : ℕ) (rows : Rows) → text-fault capacity gates rows ≡ None → (v : ℕ) → v < gates → getD (rows .counts) v 0 ≤ most-fanins
+unfolding text-fault
+few-read capacity gates rows e v h =
+    let of-gates = both-none (first-fault (rows .counts) (rows .fanins) 0 gates) _ (both-none (fault-if (too-long (rows .counts) gates) 1 0) _ e .1) .0 in
+    few-counted (rows .counts) (rows .fanins) 0 gates of-gates v (omega arith) (omega arith)
+
 read-back : (capacity hop gates : ℕ) (rows : Rows) (n : Network) → Room gates rows
     → unless-fault (text-fault capacity gates rows) (network (rows-network capacity hop gates rows)) ≡ network n → ReadBack capacity hop gates rows n
-unfolding text-fault
 read-back capacity hop gates rows n r e =
     let none-found = faultless (text-fault capacity gates rows) (rows-network capacity hop gates rows) n e in
-    let of-gates = both-none (first-fault (rows .counts) (rows .fanins) 0 gates) _ (both-none (fault-if (too-long (rows .counts) gates) 1 0) _ (none-found .0) .1) .0 in
     record {
       same-network = sym (none-found .1);
-      same-rows = rw (← (none-found .1)) (fill-rows-network capacity hop gates rows r (λ v h. few-counted (rows .counts) (rows .fanins) 0 gates of-gates v (omega arith) (omega arith)));
+      same-rows = rw (← (none-found .1)) (fill-rows-network capacity hop gates rows r (few-read capacity gates rows (none-found .0)));
     }
+
+-- Rows that answer a network are long enough for it, and the text that they spell is its.
+pub rows-answered : (capacity hop gates : ℕ) (rows : Rows) (n : Network) → rows-answer capacity hop gates rows ≡ network n
+    → (too-short gates rows ≡ false) × (reading (spell capacity hop gates rows) ≡ network n)
+unfolding rows-answer
+rows-answered capacity hop gates rows n e =
+    ⊎-elim (λ t. let z = t .1 in never cc) (λ t. t) (picked (too-short gates rows) (refused 10 0) (reading (spell capacity hop gates rows)) e)
 
 module _ (capacity hop gates : ℕ) (rows : Rows) (c : capacity ≤ most-capacity) (d : hop ≤ most-hop) (fit : InRange rows) where
   pub rows-read-back : (n : Network) → too-short gates rows ≡ false → reading (spell capacity hop gates rows) ≡ network n
@@ -125,7 +136,11 @@ module _ (capacity hop gates : ℕ) (rows : Rows) (c : capacity ≤ most-capacit
 
   -- The same, of what rows answer.
   pub rows-answer-read-back : (n : Network) → rows-answer capacity hop gates rows ≡ network n → ReadBack capacity hop gates rows n
-  unfolding rows-answer
-  rows-answer-read-back n e =
-      ⊎-elim (λ t. let z = t .1 in never cc) (λ t. rows-read-back n (t .0) (t .1))
-      (picked (too-short gates rows) (refused 10 0) (reading (spell capacity hop gates rows)) e)
+  rows-answer-read-back n e = let t = rows-answered capacity hop gates rows n e in rows-read-back n (t .0) (t .1)
+
+  -- Gates that are answered have at most eight fan-ins each.
+  pub rows-answer-few : (n : Network) → rows-answer capacity hop gates rows ≡ network n → (v : ℕ) → v < gates → getD (rows .counts) v 0 ≤ most-fanins
+  rows-answer-few n e =
+      let t = rows-answered capacity hop gates rows n e in
+      let told = sym (read-rows capacity hop gates rows c d fit (room gates rows (t .0))) ∙ t .1 in
+      few-read capacity gates rows (faultless (text-fault capacity gates rows) (rows-network capacity hop gates rows) n told .0)

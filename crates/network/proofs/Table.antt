@@ -25,13 +25,13 @@ use Rattle.network.specs.Says.{Before, first, after, Says, too-long, fau
 
 -- the walk, line by line
 
-walk-clean :
+pub walk-clean :
     (p : Place) (at : ℕ) (n : Network) (l : Line) (ls : List Line) →
     fault p l ≡ none → walk p at n (l ∷ ls) ≡ walk (next-place p l) (suc at) (take-in n p l) ls
 unfolding walk unless
 walk-clean p at n l ls h = rw h
 
-walk-faulty :
+pub walk-faulty :
     (p : Place) (at : ℕ) (n : Network) (l : Line) (ls : List Line) (k : ℕ) → fault p l ≡ some k → walk p at n (l ∷ ls) ≡ refused k at
 unfolding walk unless
 walk-faulty p at n l ls k h = rw h
@@ -65,11 +65,11 @@ walk-whole {ls} b = ap (walk Opening 1 nothing-read) (sym (append-nil ls)) ∙ w
 
 -- reading, a part at a time
 
-read-too-long : (text : List ℕ) → most-text < length text → reading text ≡ refused 1 0
+pub read-too-long : (text : List ℕ) → most-text < length text → reading text ≡ refused 1 0
 unfolding reading
 read-too-long text h = rw (lt-ltb most-text (length text) h)
 
-read-fitting : (text : List ℕ) → length text ≤ most-text → reading text ≡ weigh (walk Opening 1 nothing-read (lines text))
+pub read-fitting : (text : List ℕ) → length text ≤ most-text → reading text ≡ weigh (walk Opening 1 nothing-read (lines text))
 unfolding reading
 read-fitting text h = rw (le-ltb most-text (length text) h)
 

@@ -1,21 +1,21 @@
 -- No second outcome meets a contract of `network`. Each statement is about the contract itself: `Learnt` is what the
 -- function's `ensures` says of the arguments, the result and the parameters at exit.
-use Prim.Native.Nat.{ℕ}
 use mathlib.Core.Path.{_≡_, sym, _∙_}
-use mathlib.Core.List.{List}
 use denote.Ref.{now}
-use Rattle.network.specs.declared.writing.Written.{Written}
-use Rattle.network.specs.Rows.{Rows}
-use Rattle.network.specs.Writing.{RowsWritten}
+use Rattle.network.specs.Rows.{rows-of}
+use Rattle.network.proofs.reading.read.Reads as read
 use Rattle.network.proofs.writing.put_byte.Reads as put-byte
 use Rattle.network.proofs.writing.put_word.Reads as put-word
 use Rattle.network.proofs.writing.put_long.Reads as put-long
 use Rattle.network.proofs.writing.put_words.Reads as put-words
+use Rattle.network.proofs.writing.write_line.Reads as write-line
 
--- Two outcomes that a contract allows for the same arguments are one: the result, and the lent row at exit.
-abbrev pub OneOutcome : {K : Type 0} {A R E : K → Type 0} → ((κs : K) → A κs → R κs → E κs → Type 0) → ((κs : K) → E κs → List ℕ) → Type 0
-OneOutcome {K} {A} {R} {E} Ensured row =
-    (κs : K) (args : A κs) (r s : R κs) (exit exit′ : E κs) → Ensured κs args r exit → Ensured κs args s exit′ → (r ≡ s) × (row κs exit ≡ row κs exit′)
+-- Two outcomes that a contract allows for the same arguments are one: the result, and the lent rows at exit.
+abbrev pub OneOutcome :
+    {K X : Type 0} {A R E : K → Type 0} → ((κs : K) → A κs → R κs → E κs → Type 0) → ((κs : K) → E κs → X) → Type 0
+OneOutcome {K} {X} {A} {R} {E} Ensured lent =
+    (κs : K) (args : A κs) (r s : R κs) (exit exit′ : E κs) → Ensured κs args r exit → Ensured κs args s exit′
+    → (r ≡ s) × (lent κs exit ≡ lent κs exit′)
 
 -- What equals the same thing is equal.
 same : {X : Type 0} {r s x : X} → r ≡ x → s ≡ x → r ≡ s
@@ -33,7 +33,12 @@ put-long-unique κs args r s exit exit′ p q = (same (p .answer) (q .answer), s
 pub put-words-unique : OneOutcome put-words.Learnt (λ κs exit. now (exit .0))
 put-words-unique κs args r s exit exit′ p q = (same (p .answer) (q .answer), same (p .kept) (q .kept))
 
--- The contract of writing a line of rows leaves no second outcome either.
-pub rows-written-unique : {index capacity hop gates : ℕ} {rows : Rows} {out : List ℕ} {r s : Written} {row row′ : List ℕ}
-    → RowsWritten index capacity hop gates rows out r row → RowsWritten index capacity hop gates rows out s row′ → (r ≡ s) × (row ≡ row′)
-rows-written-unique p q = (same (p .answer) (q .answer), same (p .kept) (q .kept))
+-- The row that is written is the last of nine parameters; the others are lent to be read.
+pub write-line-unique : OneOutcome write-line.Learnt (λ κs exit. now (exit .1 .1 .1 .1 .1 .1 .1 .1 .0))
+write-line-unique κs args r s exit exit′ p q = (same (p .answer) (q .answer), same (p .kept) (q .kept))
+
+-- The text is lent to be read, and four rows to be written.
+pub read-unique :
+    OneOutcome read.Learnt
+    (λ κs exit. rows-of (now (exit .1 .0)) (now (exit .1 .1 .0)) (now (exit .1 .1 .1 .0)) (now (exit .1 .1 .1 .1 .0)))
+read-unique κs args r s exit exit′ p q = (same (p .result) (q .result), same (p .rows) (q .rows))

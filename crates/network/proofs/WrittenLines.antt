@@ -1,15 +1,14 @@
 -- Laws of written lines: a frame's digits that stand in a row, with a line feed past them, are its line.
 use Prim.Native.Nat.{ℕ, zero, suc, _+_, _*_, _-_, _≤_, _<_, min}
 use mathlib.Core.Path.{_≡_, refl, ap, _∙_}
-use mathlib.Core.Bool.{Bool, true, false, _||_}
-use mathlib.Core.List.{List, [], _∷_, _++_, map, map-append}
+use mathlib.Core.Bool.{true, false}
+use mathlib.Core.List.{List, [], _∷_, _++_, map}
 use native.Mathlib.Nat.{zero-add}
-use native.Mathlib.Decide.{ℕ-discrete}
 use native.Mathlib.Omega.{arith}
-use lib.ListN.{length, getD, set, take, drop, length-append, length-take, length-drop, length-map, List·getD-append, List·getD-eq-default}
+use lib.ListN.{length, getD, set, take, drop, length-append, length-take, length-drop, List·getD-append, List·getD-eq-default}
 use lib.Seq.{sets, sets-eq, getD-at}
 use lib.Dec.{ltb}
-use borrow.Author.Tests.{lt-ltb, le-ltb, ltb-false}
+use borrow.Author.Tests.{lt-ltb, le-ltb}
 use Rattle.model.specs.Basics.{gather, upto}
 use Rattle.model.specs.Ceilings.{most-fanins}
 use Rattle.model.specs.Network.{Network}
@@ -17,9 +16,11 @@ use Rattle.frames.specs.Text.{line-feed}
 use Rattle.network.specs.declared.writing.Written.{Written}
 use Rattle.network.specs.declared.writing.Written.the-variants.{Line, Refused}
 use Rattle.network.specs.Reading.{refused, network}
-use Rattle.network.specs.Rows.{Rows, row-gate, too-short}
+use Rattle.network.specs.Rows.{Rows, row-gate}
 use Rattle.network.specs.Spelling.{byte-digits, word-bytes, header-bytes, gate-bytes, end-bytes, spell-line, row-lines, rows-answer}
 use Rattle.network.specs.Writing.{digits, Put, Ended, line-answer, line-row, LineWritten, Stored, gate-line, line-at, Spellable, answer-unless, row-unless, RowsWritten}
+use Rattle.network.proofs.Made.{length-made, getD-made}
+use Rattle.network.proofs.RowLaws.{room}
 use Rattle.network.proofs.Puts.{Stands, put-stands, stands-then, stands-kept, sets-append, length-words}
 
 line-is : (bs : List ℕ) → spell-line bs ≡ digits bs ++ (line-feed ∷ [])
@@ -105,53 +106,24 @@ module _ (v : ℕ) (rows : Rows) (there : Stored v rows) where
   length-gate = rw gate-line-is length-stored-line
 
 -- Lines counted from 0: one in front, so many made by number, and one behind.
-length-upto : (k : ℕ) → length (upto k) ≡ k
-unfolding upto
-length-upto zero = refl
-length-upto (suc k) = let shorter : length (upto k) ≡ k = length-upto k in simp length-append (omega arith)
+module _ (f : ℕ → List ℕ) (front behind : List ℕ) (k : ℕ) where
+  abbrev all-lines : List (List ℕ)
+  all-lines = front ∷ map f (upto k) ++ (behind ∷ [])
 
-module _ (f : ℕ → List ℕ) where
-  made : ℕ → List (List ℕ)
-  made k = map f (upto k)
+  at-made : (i : ℕ) → (i ≡ 0 → ⊥) → i - 1 < k → getD all-lines i [] ≡ f (i - 1)
+  at-made zero h more = absurd (h refl)
+  at-made (suc i) h more =
+      let e : suc i - 1 ≡ i = omega arith in
+      rw e (List·getD-append (map f (upto k)) (behind ∷ []) [] i (omega (arith, length-made f k)) ∙ getD-made f [] k i (omega arith))
 
-  length-made : (k : ℕ) → length (made k) ≡ k
-  unfolding made
-  length-made k = length-map (upto k) f ∙ length-upto k
+  at-behind : (i : ℕ) → (i ≡ 0 → ⊥) → i - 1 ≡ k → getD all-lines i [] ≡ behind
+  at-behind zero h e = absurd (h refl)
+  at-behind (suc i) h e = getD-at (map f (upto k)) behind [] [] i (omega (arith, length-made f k))
 
-  made-suc : (k : ℕ) → made (suc k) ≡ made k ++ (f k ∷ [])
-  unfolding made upto
-  made-suc k = map-append f (upto k) (k ∷ [])
-
-  getD-made : (k v : ℕ) → v < k → getD (made k) v [] ≡ f v
-  getD-made zero v h = absurd (omega arith)
-  getD-made (suc k) v h =
-      rw made-suc
-      (elim (ℕ-discrete v k) [
-        | yes e ↦ rw e (getD-at (made k) (f k) [] [] k (length-made k))
-        | no ne ↦ List·getD-append (made k) (f k ∷ []) [] v (omega (arith, length-made k)) ∙ getD-made k v (omega arith)
-      ])
-
-  module _ (front behind : List ℕ) (k : ℕ) where
-    abbrev all-lines : List (List ℕ)
-    all-lines = front ∷ map f (upto k) ++ (behind ∷ [])
-
-    at-made : (i : ℕ) → (i ≡ 0 → ⊥) → i - 1 < k → getD all-lines i [] ≡ f (i - 1)
-    unfolding made
-    at-made zero h more = absurd (h refl)
-    at-made (suc i) h more =
-        let e : suc i - 1 ≡ i = omega arith in
-        rw e (List·getD-append (made k) (behind ∷ []) [] i (omega (arith, length-made k)) ∙ getD-made k i (omega arith))
-
-    at-behind : (i : ℕ) → (i ≡ 0 → ⊥) → i - 1 ≡ k → getD all-lines i [] ≡ behind
-    unfolding made
-    at-behind zero h e = absurd (h refl)
-    at-behind (suc i) h e = getD-at (made k) behind [] [] i (omega (arith, length-made k))
-
-    at-none : (i : ℕ) → (i ≡ 0 → ⊥) → k < i - 1 → getD all-lines i [] ≡ []
-    unfolding made
-    at-none zero h past = absurd (h refl)
-    at-none (suc i) h past =
-        List·getD-eq-default (made k ++ (behind ∷ [])) [] (omega (arith, length-append (made k) (behind ∷ []), length-made k))
+  at-none : (i : ℕ) → (i ≡ 0 → ⊥) → k < i - 1 → getD all-lines i [] ≡ []
+  at-none zero h past = absurd (h refl)
+  at-none (suc i) h past =
+      List·getD-eq-default (map f (upto k) ++ (behind ∷ [])) [] (omega (arith, length-append (map f (upto k)) (behind ∷ []), length-made f k))
 
 -- The lines that rows spell, by number: the header, the gates, the end, and nothing past it.
 module _ (capacity hop gates : ℕ) (rows : Rows) where
@@ -176,26 +148,15 @@ pub line-none : (out : List ℕ) → LineWritten [] out (Line 0) out
 unfolding line-answer line-row
 line-none out = let e : ltb (length out) 0 ≡ false = le-ltb (length out) 0 (omega arith) in record { answer = rw e; kept = rw e }
 
-neither : (a b : Bool) → a || b ≡ false → (a ≡ false) × (b ≡ false)
-neither true b e = absurd (let z : _≡_ {A = ℕ} 0 1 = cc in omega arith)
-neither false b e = (refl, e)
-
 -- Each gate that spellable rows claim has its places in them.
 pub stored : {gates : ℕ} {rows : Rows} → Spellable gates rows → (v : ℕ) → v < gates → Stored v rows
-unfolding too-short
 stored {gates} {rows} s v h =
-    let w = ltb (length (rows .weights)) gates in
-    let d = ltb (length (rows .delays)) gates in
-    let k = ltb (length (rows .counts)) gates in
-    let f = ltb (length (rows .fanins)) (most-fanins * gates) in
-    let three = neither (w || d || k) f (s .long) in
-    let two = neither (w || d) k (three .0) in
-    let one = neither w d (two .0) in
+    let r = room gates rows (s .long) in
     record {
-      weight = omega (arith, ltb-false (length (rows .weights)) gates (one .0));
-      delay = omega (arith, ltb-false (length (rows .delays)) gates (one .1));
-      count = omega (arith, ltb-false (length (rows .counts)) gates (two .1));
-      fanins = omega (arith, ltb-false (length (rows .fanins)) (most-fanins * gates) (three .1));
+      weight = omega (arith, r .weights);
+      delay = omega (arith, r .delays);
+      count = omega (arith, r .counts);
+      fanins = omega (arith, r .fanins);
       few = s .few v h;
     }
 

@@ -3,7 +3,7 @@ use Prim.Native.Nat.{ℕ}
 use mathlib.Core.List.{List}
 use Rattle.network.specs.declared.Read.{Read}
 use Rattle.network.specs.Spelling.{rows-answer}
-use Rattle.network.specs.RowsCheck.{rows-of}
+use Rattle.network.specs.Rows.{rows-of}
 use Rattle.network.specs.Shown.{shown}
 
 -- "A network handed over as rows answers as the text those rows spell."

@@ -4,6 +4,8 @@ pub mod Says
 pub mod Rows
 pub mod Spelling
 pub mod Shown
+pub mod Passes
+pub mod ReadInto
 pub mod RowsCheck
 pub mod Checked
 pub mod Writing

@@ -16,6 +16,10 @@ pub record Rows : Type 0 where
   pub counts : List ℕ
   pub fanins : List ℕ
 
+-- four rows, handed over one by one
+abbrev pub rows-of : List ℕ → List ℕ → List ℕ → List ℕ → Rows
+rows-of weights delays counts fanins = record { weights = weights; delays = delays; counts = counts; fanins = fanins }
+
 -- "only a row shorter than its formula answers 10": one place a gate, and eight for its fan-ins.
 unfoldable pub too-short : ℕ → Rows → Bool
 too-short gates rows =

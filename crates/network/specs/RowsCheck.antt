@@ -13,10 +13,6 @@ use Rattle.network.specs.declared.rows.Fault.the-variants.{None, At}
 use Rattle.network.specs.Reading.{Reading, refused, network, most-text}
 use Rattle.network.specs.Rows.{Rows, too-short, rows-network}
 
--- four rows, handed over one by one
-abbrev pub rows-of : List ℕ → List ℕ → List ℕ → List ℕ → Rows
-rows-of weights delays counts fanins = record { weights = weights; delays = delays; counts = counts; fanins = fanins }
-
 -- a fault found where a test holds
 unfoldable pub fault-if : Bool → ℕ → ℕ → Fault
 fault-if test number line = cond test (At number line) None

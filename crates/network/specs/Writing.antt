@@ -48,10 +48,6 @@ pub record LineWritten (line : List ℕ) (out : List ℕ) (r : Written) (row : L
   pub answer : r ≡ line-answer line out
   pub kept : row ≡ line-row line out
 
--- four rows as one
-abbrev pub rows-of : List ℕ → List ℕ → List ℕ → List ℕ → Rows
-rows-of weights delays counts fanins = record { weights = weights; delays = delays; counts = counts; fanins = fanins }
-
 -- a gate's places are within the rows, and its count within the ceiling
 pub record Stored (v : ℕ) (rows : Rows) : Type 0 where
   pub weight : v < length (rows .weights)

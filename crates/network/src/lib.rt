@@ -2,6 +2,7 @@
 // fan-in count of each gate, and its fan-ins, eight places a gate. Every text, and every content of the rows, gets a
 // network or one numbered refusal with its line.
 
+pub mod reading;
 pub mod rows;
 pub mod writing;
 

@@ -13,9 +13,8 @@ ghost use lib.ListN.{length};
 ghost use lib.Dec.{leb, ltb};
 ghost use Rattle.model.specs.Ceilings.{most-fanins};
 ghost use Rattle.frames.specs.Table.{rising-from};
-ghost use Rattle.network.specs.Rows.{too-short};
+ghost use Rattle.network.specs.Rows.{rows-of, too-short};
 ghost use Rattle.network.specs.RowsCheck.{
-  rows-of,
   gate-length,
   too-long,
   gate-fault,

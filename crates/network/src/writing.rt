@@ -1,6 +1,8 @@
 // Lines of hexadecimal written into a lent row. The puts write bytes and words as digits, from a place on: all of what they
 // were handed or, without room for it, nothing. On them stand the lines of a network that is handed over as rows: the
 // header, a line a gate, the end. A row too short for a line answers 10 and is left as it was.
+use crate::Read;
+use crate::rows;
 use units::FanInCount;
 ghost use mathlib.Core.Path.{_≡_};
 ghost use mathlib.Core.List.{[], _∷_};
@@ -8,8 +10,9 @@ ghost use Prim.Native.Nat.{_+_, _<_};
 ghost use lib.ListN.{length};
 ghost use lib.Dec.{leb};
 ghost use Rattle.model.specs.Basics.{gather};
+ghost use Rattle.network.specs.Rows.{rows-of};
 ghost use Rattle.network.specs.Spelling.{figure, word-bytes, long-bytes, header-bytes, end-bytes, spell-line, row-lines};
-ghost use Rattle.network.specs.Writing.{Put, Ended, LineWritten, rows-of, Stored, gate-line, line-at, Spellable};
+ghost use Rattle.network.specs.Writing.{Put, Ended, LineWritten, Stored, gate-line, line-at, Spellable, RowsWritten};
 
 // What writing a line answers: its length, line feed included, or a refusal's number and line.
 pub enum Written {
@@ -197,4 +200,42 @@ fn spell_line(
         return spell_end(gates as u16, out);
     }
     Written::Line(0)
+}
+
+// The line of that index, counted from 0, of the text that the rows spell: the header, a line a gate, the end; past the
+// last line nothing. What refuses that text is answered before anything is written.
+pub fn write_line(
+    index: usize,
+    capacity: u32,
+    hop: u16,
+    gates: usize,
+    weights: &[u16],
+    delays: &[u16],
+    counts: &[u8],
+    fanins: &[u16],
+    out: &mut [u8],
+) -> Written
+    ensures { λ r. ⌜ RowsWritten index capacity hop gates
+        (rows-of (now (weights .entry)) (now (delays .entry)) (now (counts .entry)) (now (fanins .entry)))
+        (now (out .entry)) r (now (out .exit)) ⌝ }
+{
+    let answer = rows::check(capacity, hop, gates, weights, delays, counts, fanins);
+    match answer {
+        Read::Refused { number, line } => Written::Refused { number, line },
+        Read::Network {
+            gates: _,
+            capacity: _,
+            hop: _,
+        } => spell_line(
+            index,
+            capacity,
+            hop,
+            gates,
+            weights,
+            delays,
+            counts,
+            fanins,
+            out,
+        ),
+    }
 }

@@ -40,9 +40,13 @@ numbered x = cond (ltb x most-gates) (number.Made (record { 0 = x })) number.Abo
 abbrev pub counted : ℕ → Counted
 counted x = cond (leb x most-fanins) (count.Made (record { 0 = x })) count.Above
 
--- The sum of two numbers as 64 bits hold it: what is above the largest of them is that largest.
+-- A number as so many bits hold it: what is above the largest number of them is that largest.
+abbrev pub held : ℕ → ℕ → ℕ
+held bits x = min x (2 ^ bits - 1)
+
+-- The sum of two numbers as 64 bits hold it.
 abbrev pub held-sum : ℕ → ℕ → ℕ
-held-sum a b = min (a + b) (2 ^ 64 - 1)
+held-sum a b = held 64 (a + b)
 
 -- "Weights and the capacity M count cells." In a cluster "the summed weight .. is at most M".
 abbrev pub area-sum : Cells → Cells → ℕ
@@ -61,3 +65,17 @@ larger-of a b = max (a .0) (b .0)
 
 abbrev pub exceeds : Ticks → Ticks → Bool
 exceeds a b = ltb (b .0) (a .0)
+
+-- What stands in a place of a row, or in an answer, for a quantity: 16 bits for a weight, a delay or D, 32 for M, 8 for a
+-- fan-in count. Each holds every number up to its ceiling.
+abbrev pub weight-place : Cells → ℕ
+weight-place a = held 16 (a .0)
+
+abbrev pub capacity-place : Cells → ℕ
+capacity-place a = held 32 (a .0)
+
+abbrev pub delay-place : Ticks → ℕ
+delay-place a = held 16 (a .0)
+
+abbrev pub count-place : FanInCount → ℕ
+count-place k = held 8 (k .0)

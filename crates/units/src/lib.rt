@@ -8,12 +8,17 @@ ghost use Rattle.units.specs.Units.{
   delayed,
   numbered,
   counted,
+  held,
   held-sum,
   area-sum,
   time-sum,
   larger-of,
   fits,
   exceeds,
+  weight-place,
+  capacity-place,
+  delay-place,
+  count-place,
 };
 
 // a + b, or the largest number that 64 bits hold where the sum is above it.
@@ -21,6 +26,29 @@ fn held_sum(a: u64, b: u64) -> u64
     ensures { λ r. ⌜ r ≡ held-sum a b ⌝ }
 {
     if b <= u64::MAX - a { a + b } else { u64::MAX }
+}
+
+// x as 8, 16 or 32 bits hold it: what is above the largest number of them is that largest.
+fn held_8(x: usize) -> u8
+    ensures { λ r. ⌜ r ≡ held 8 x ⌝ }
+{
+    if x <= 255 { x as u8 } else { u8::MAX }
+}
+
+fn held_16(x: u64) -> u16
+    ensures { λ r. ⌜ r ≡ held 16 x ⌝ }
+{
+    if x <= 65_535 { x as u16 } else { u16::MAX }
+}
+
+fn held_32(x: u64) -> u32
+    ensures { λ r. ⌜ r ≡ held 32 x ⌝ }
+{
+    if x <= 4_294_967_295 {
+        x as u32
+    } else {
+        u32::MAX
+    }
 }
 
 // An area, in cells.
@@ -59,6 +87,20 @@ impl Cells {
         ensures { λ r. ⌜ r ≡ fits self capacity ⌝ }
     {
         self.0 <= capacity.0
+    }
+
+    // This area as a place of a weight row holds it.
+    pub fn weight_place(self) -> u16
+        ensures { λ r. ⌜ r ≡ weight-place self ⌝ }
+    {
+        held_16(self.0)
+    }
+
+    // This area as the 32 bits of a capacity hold it.
+    pub fn capacity_place(self) -> u32
+        ensures { λ r. ⌜ r ≡ capacity-place self ⌝ }
+    {
+        held_32(self.0)
     }
 }
 
@@ -105,6 +147,13 @@ impl Ticks {
         ensures { λ r. ⌜ r ≡ exceeds self other ⌝ }
     {
         other.0 < self.0
+    }
+
+    // This time as a place of a delay row, or the 16 bits of a hop delay, hold it.
+    pub fn delay_place(self) -> u16
+        ensures { λ r. ⌜ r ≡ delay-place self ⌝ }
+    {
+        held_16(self.0)
     }
 }
 
@@ -155,5 +204,12 @@ impl FanInCount {
         } else {
             Counted::Above
         }
+    }
+
+    // This count as a place of a count row holds it.
+    pub fn count_place(self) -> u8
+        ensures { λ r. ⌜ r ≡ count-place self ⌝ }
+    {
+        held_8(self.0)
     }
 }

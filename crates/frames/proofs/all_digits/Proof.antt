@@ -1,17 +1,15 @@
-use Prim.Native.Nat.{_+_, _-_, _≤_}
-use mathlib.Core.Path.{_≡_}
+-- `frames::all_digits` meets its contract. The loop's invariant: what is left to test decides as the whole does.
+use Prim.Native.Nat.{_-_}
+use mathlib.Core.Path.{_≡_, sym, _∙_}
 use native.Mathlib.Omega.{arith}
 use borrow.Author.Needs.{needs}
 use lib.ListN.{getD}
 use lib.Seq.{slice}
-use Rattle.frames.specs.Text.{digit, all-digits}
+use Rattle.frames.specs.Text.{all-digits}
 use Rattle.frames.proofs.Numbers.{digit-most}
 use Rattle.frames.proofs.Walks.{digits-none, digits-more, digits-bad}
 use Rattle.frames.proofs.all_digits.Statement.{statement}
 use Rattle.frames.proofs.all_digits.Tie as tie
-use Rattle.frames.proofs.all_digits.Reads as reads
-use Rattle.frames.proofs.all_digits.Lts as lts
-use Rattle.frames.proofs.digit.Reads as digit-reads
 
 abbrev Inv-loop : tie.InvT-loop
 Inv-loop text at end i₀ i = all-digits (slice i end text) ≡ all-digits (slice at end text)
@@ -19,45 +17,39 @@ Inv-loop text at end i₀ i = all-digits (slice i end text) ≡ all-digits (slic
 abbrev μ-loop : tie.MeasureT-loop
 μ-loop text at end i₀ i = end - i
 
--- src/lib.rt:138:5
 loop-holds : tie.Need-loop-holds Inv-loop μ-loop
 loop-holds c = search needs
 
--- src/lib.rt:139:18
 shared-slice-read-digit : tie.Need-shared-slice-read-digit Inv-loop μ-loop
 shared-slice-read-digit c = search needs
 
--- src/lib.rt:139:12
 digit-requires : tie.Need-digit-requires Inv-loop μ-loop
 digit-requires c κs = search needs
 
--- src/lib.rt:140:13
 returns : tie.Need-returns Inv-loop μ-loop
 returns c =
     let a = c .before .before .before .before .before .before .args in
     let i = c .before .before .before .before .loop .i in
-    cc (digits-bad (a .text .now) i (a .end) (search needs) (search needs) (cc))
+    sym (digits-bad (a .text .now) i (a .end) (search needs) (search needs) (sym (c .before .digit .ensures) ∙ c .if1 .taken))
+    ∙ c .before .before .before .before .loop .inv
 
--- src/lib.rt:142:9
 add-i : tie.Need-add-i Inv-loop μ-loop
 add-i c = search needs
 
--- src/lib.rt:138:5
 loop-less : tie.Need-loop-less Inv-loop μ-loop
 loop-less c = search needs
 
--- src/lib.rt:138:5
 loop-again : tie.Need-loop-again Inv-loop μ-loop
 loop-again c =
     let a = c .before .before .before .before .before .before .args in
     let i = c .before .before .before .before .loop .i in
-    cc (digits-more (a .text .now) i (a .end) (search needs) (search needs) (omega (arith, digit-most (getD (a .text .now) i 0))))
+    sym (digits-more (a .text .now) i (a .end) (search needs) (search needs) (omega (arith, digit-most (getD (a .text .now) i 0))))
+    ∙ c .before .before .before .before .loop .inv
 
--- src/lib.rt:133:1
 returns-2 : tie.Need-returns-2 Inv-loop μ-loop
 returns-2 c =
     let a = c .before .before .before .args in
-    cc (digits-none (a .text .now) (c .before .loop .i) (a .end) (search needs))
+    sym (digits-none (a .text .now) (c .before .loop .i) (a .end) (search needs)) ∙ c .before .loop .inv
 
 pub all-digits-spec : {M : Type 1} → statement M
 all-digits-spec =

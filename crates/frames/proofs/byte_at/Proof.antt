@@ -2,7 +2,7 @@
 use Prim.Native.Nat.{_+_}
 use native.Mathlib.Omega.{arith}
 use borrow.Author.Needs.{needs}
-use Rattle.frames.specs.Frames.{digit-at, byte-from}
+use Rattle.frames.specs.Frames.{byte-from}
 use Rattle.frames.proofs.Numbers.{digit-at-most}
 use Rattle.frames.proofs.byte_at.Statement.{statement}
 use Rattle.frames.proofs.byte_at.Tie as tie

@@ -1,5 +1,5 @@
 -- `frames::digit_at` meets its contract: past the end `getD` gives 0, which is no digit.
-use mathlib.Core.Path.{_∙_, sym, ap}
+use mathlib.Core.Path.{sym}
 use borrow.Author.Needs.{needs}
 use Rattle.frames.specs.Frames.{digit-at}
 use Rattle.frames.proofs.Numbers.{digit-past}
@@ -15,6 +15,9 @@ digit-requires c κs = search needs
 cast-result : tie.Need-cast-result
 cast-result c = search needs
 
+cast-result-2 : tie.Need-cast-result-2
+cast-result-2 c = search needs
+
 returns : tie.Need-returns
 unfolding digit-at
 returns c = c .digit .ensures
@@ -26,4 +29,4 @@ returns-2 c =
 
 pub digit-at-spec : {M : Type 1} → statement M
 digit-at-spec =
-    tie.close (tie.spec shared-slice-read-digit digit-requires cast-result returns returns-2)
+    tie.close (tie.spec shared-slice-read-digit digit-requires cast-result cast-result-2 returns returns-2)

@@ -1,12 +1,12 @@
 -- `frames::fan_in` meets its contract: where no four digits are left in the text behind `at`, the word there is missing whole.
-use Prim.Native.Nat.{ℕ, _+_, _*_, _-_, _≤_, _<_}
-use mathlib.Core.Path.{_≡_, sym}
+use Prim.Native.Nat.{_+_, _*_, _≤_}
+use mathlib.Core.Path.{sym}
 use mathlib.Core.Logic.{⊎-elim}
 use native.Mathlib.Omega.{arith}
 use borrow.Author.Needs.{needs}
 use borrow.Author.Tests.{ltb-true, ltb-false}
 use lib.ListN.{length}
-use Rattle.frames.specs.Frames.{word-from, fan-in-from}
+use Rattle.frames.specs.Frames.{fan-in-from}
 use Rattle.frames.proofs.Numbers.{word-most, word-past}
 use Rattle.frames.proofs.fan_in.Statement.{statement}
 use Rattle.frames.proofs.fan_in.Tie as tie

@@ -1,7 +1,8 @@
+-- `frames::read_gate` meets its contract: each answer is a row of the table, or the gate frame. The makers of `units`
+-- decide the count and the gate number.
 use borrow.Author.Needs.{needs}
-use Prim.Native.Nat.{ℕ, _+_, _*_, _-_, _≤_, _<_}
+use Prim.Native.Nat.{ℕ, _+_, _≤_, _<_}
 use mathlib.Core.Path.{_≡_, sym, ap, _∙_}
-use mathlib.Core.Bool.{true, false}
 use native.Mathlib.Omega.{arith}
 use Rattle.model.specs.Ceilings.{most-fanins, most-gates}
 use Rattle.units.proofs.Makers.{counted-made, counted-above, numbered-made, numbered-above}
@@ -16,13 +17,6 @@ use Rattle.frames.proofs.Numbers.{byte-most}
 use Rattle.frames.proofs.Gate.{gate-4-count, gate-4-length, gate-5, gate-6, gate-read, same-gate}
 use Rattle.frames.proofs.read_gate.Statement.{statement}
 use Rattle.frames.proofs.read_gate.Tie as tie
-use Rattle.frames.proofs.read_gate.Reads as reads
-use Rattle.frames.proofs.read_gate.Lts as lts
-use Rattle.frames.proofs.byte_at.Reads as byte-at-reads
-use Rattle.frames.proofs.rising.Reads as rising-reads
-use Rattle.frames.proofs.word_at.Reads as word-at-reads
-use Rattle.units.proofs.FanInCount.new.Reads as FanInCount-new-reads
-use Rattle.units.proofs.GateNumber.new.Reads as GateNumber-new-reads
 
 form : (s : tie.Start) → Formed (s .args .text .now) (s .args .at) (s .args .end)
 form s = formed Opening (s .args .text .now) (s .args .at) (s .args .end) (s .pre .0)
@@ -52,64 +46,50 @@ fan-ins-tested c =
     (sym (gate-made (c .before .before) .1))
     ∙ sym (c .rising .ensures)
 
--- src/lib.rt:216:33
 add-byte-at : tie.Need-add-byte-at
 add-byte-at c = omega (arith, form (c .before))
 
--- src/lib.rt:216:19
 byte-at-requires : tie.Need-byte-at-requires
 byte-at-requires c κs = omega (arith, form (c .before))
 
--- src/lib.rt:217:32
 new-requires : tie.Need-new-requires
 new-requires c κs = search needs
 
--- src/lib.rt:217:23
 enum-known-count : tie.Need-enum-known-count
 enum-known-count c = search needs
 
--- src/lib.rt:218:9
 enum-told : tie.Need-enum-told
 enum-told c = search needs
 
--- src/lib.rt:218:9
 returns : tie.Need-returns
 returns c =
     let s = c .before .before .before .before .before in
     gate-4-count (s .args .text .now) (s .args .at) (s .args .end) (s .args .gates) (s .args .line) (s .pre .0) (s .pre .1)
     (omega (arith, counted-above (c .before .before .before .byte-at .result) (sym (c .before .before .new .ensures) ∙ c .enum-told .given .1)))
 
--- src/lib.rt:220:8
 sub-if1 : tie.Need-sub-if1
 sub-if1 c = omega (arith, form (c .before .before .before .before .before .before))
 
--- src/lib.rt:220:37
 mul-if1 : tie.Need-mul-if1
 mul-if1 c = omega (arith, byte-most (c .before .before .before .before .before .before .args .text .now) (c .before .before .before .before .before .before .args .at + 10))
 
--- src/lib.rt:220:20
 add-if1 : tie.Need-add-if1
 add-if1 c = omega (arith, byte-most (c .before .before .before .before .before .before .args .text .now) (c .before .before .before .before .before .before .args .at + 10))
 
--- src/lib.rt:221:9
 returns-2 : tie.Need-returns-2
 returns-2 c =
     let s = c .before .before .before .before .before .before .before in
-    gate-4-length (s .args .text .now) (s .args .at) (s .args .end) (s .args .gates) (s .args .line) (s .pre .0) (s .pre .1) (λ e. c .if1 .taken (omega arith))
+    gate-4-length (s .args .text .now) (s .args .at) (s .args .end) (s .args .gates) (s .args .line) (s .pre .0) (s .pre .1) (omega arith)
 
--- src/lib.rt:223:32
 new-requires-2 : tie.Need-new-requires-2
 new-requires-2 c κs = search needs
 
--- src/lib.rt:223:24
 enum-known-gate : tie.Need-enum-known-gate
 enum-known-gate c = search needs
 
--- src/lib.rt:224:9
 enum-told-2 : tie.Need-enum-told-2
 enum-told-2 c = search needs
 
--- src/lib.rt:224:9
 returns-3 : tie.Need-returns-3
 returns-3 c =
     let s = c .before .before .before .before .before .before .before .before .before .before in
@@ -118,15 +98,12 @@ returns-3 c =
     (omega arith)
     (numbered-above (s .args .gates) (sym (c .before .before .new2 .ensures) ∙ c .enum-told2 .given .1))
 
--- src/lib.rt:226:22
 add-rising : tie.Need-add-rising
 add-rising c = search needs
 
--- src/lib.rt:226:9
 rising-requires : tie.Need-rising-requires
 rising-requires c κs = omega (arith, form (c .before .before .before .before .before .before .before .before .before .before .before))
 
--- src/lib.rt:227:9
 returns-4 : tie.Need-returns-4
 returns-4 c =
     let s = c .before .before .before .before .before .before .before .before .before .before .before .before .before in
@@ -136,27 +113,21 @@ returns-4 c =
     (gate-made (c .before .before .before) .0)
     (fan-ins-tested (c .before) ∙ not-true _ (c .if2 .taken))
 
--- src/lib.rt:230:37
 add-word-at : tie.Need-add-word-at
 add-word-at c = search needs
 
--- src/lib.rt:230:23
 word-at-requires : tie.Need-word-at-requires
 word-at-requires c κs = search needs
 
--- src/lib.rt:231:36
 add-word-at-2 : tie.Need-add-word-at-2
 add-word-at-2 c = search needs
 
--- src/lib.rt:231:22
 word-at-requires-2 : tie.Need-word-at-requires-2
 word-at-requires-2 c κs = search needs
 
--- src/lib.rt:233:15
 add-t12 : tie.Need-add-t12
 add-t12 c = omega (arith, form (c .before .before .before .before .before .before .before .before .before .before .before .before .before .before .before))
 
--- src/lib.rt:212:1
 returns-5 : tie.Need-returns-5
 returns-5 c =
     let s = c .before .before .before .before .before .before .before .before .before .before .before .before .before .before .before in

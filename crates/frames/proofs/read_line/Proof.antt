@@ -1,24 +1,19 @@
+-- `frames::read_line` meets its contract: the line found is the first of those left, row 2 is tested first, and then the
+-- line is judged in its place.
 use borrow.Author.Needs.{needs}
-use Prim.Native.Nat.{ℕ}
 use mathlib.Core.Path.{_≡_, refl, sym, _∙_}
-use mathlib.Core.Bool.{true, false, not, Bool·not-not}
+use mathlib.Core.Bool.{true, false}
 use native.Mathlib.Omega.{arith}
 use borrow.Author.Tests.{not-true, not-false}
 use Rattle.frames.specs.declared.Place.{Place}
 use Rattle.frames.specs.declared.Place.the-variants.{Opening, Closed}
 use Rattle.frames.specs.Table.{malformed}
-use Rattle.frames.specs.Frames.{line-from, judged, line-read}
+use Rattle.frames.specs.Frames.{judged, line-read, line-from}
 use Rattle.frames.proofs.Formed.{any-place}
 use Rattle.frames.proofs.Rows.{judged-2, closed-3}
 use Rattle.frames.proofs.Lines.{end-most, read-first, read-past}
 use Rattle.frames.proofs.read_line.Statement.{statement}
 use Rattle.frames.proofs.read_line.Tie as tie
-use Rattle.frames.proofs.read_line.Reads as reads
-use Rattle.frames.proofs.read_line.Lts as lts
-use Rattle.frames.proofs.line_end.Reads as line-end-reads
-use Rattle.frames.proofs.read_after_header.Reads as read-after-header-reads
-use Rattle.frames.proofs.read_header.Reads as read-header-reads
-use Rattle.frames.proofs.well_formed.Reads as well-formed-reads
 
 -- What the line found answers, in the place that it was asked for, is what is read.
 found : (c : tie.After-line-end) (p : Place) → c .before .before .before .args .place ≡ p
@@ -33,23 +28,19 @@ well : (c : tie.Else2)
     → malformed Opening (line-from (c .before .before .before .before .before .args .text .now) (c .before .before .before .before .before .args .at) (c .before .before .line-end .result)) ≡ false
 well c = not-true _ (sym (c .before .well-formed .ensures) ∙ not-false _ (c .if2 .left))
 
--- src/lib.rt:276:9
 returns : tie.Need-returns
 returns c =
     let a = c .before .before .args in
     read-past (a .text .now) (a .at) (a .place) (a .line) (c .if1 .taken)
 
--- src/lib.rt:278:9
 line-end-requires : tie.Need-line-end-requires
 line-end-requires c κs = search needs
 
--- src/lib.rt:279:9
 well-formed-requires : tie.Need-well-formed-requires
 well-formed-requires c κs =
     let a = c .before .before .before .args in
-    end-most (a .text .now) (a .at) (c .line-end .result) (search needs) (c .line-end .ensures)
+    (omega arith, end-most (a .text .now) (a .at) (c .line-end .result) (search needs) (c .line-end .ensures))
 
--- src/lib.rt:280:9
 returns-2 : tie.Need-returns-2
 returns-2 c =
     let a = c .before .before .before .before .before .args in
@@ -58,35 +49,27 @@ returns-2 c =
     any-place (a .place) Opening l ∙ not-false _ (sym (c .before .well-formed .ensures) ∙ not-true _ (c .if2 .taken)) in
     sym (judged-2 (a .at) (a .place) (a .line) l two) ∙ found (c .before .before) (a .place) refl
 
--- src/lib.rt:283:27
 enum-told : tie.Need-enum-told
 enum-told c = search needs
 
--- src/lib.rt:283:27
 read-header-requires : tie.Need-read-header-requires
 read-header-requires c κs = well (c .before .before)
 
--- src/lib.rt:284:27
 enum-known-place : tie.Need-enum-known-place
 enum-known-place c = search needs
 
--- src/lib.rt:284:37
 read-after-header-requires : tie.Need-read-after-header-requires
 read-after-header-requires c κs = well (c .before .before .before)
 
--- src/lib.rt:285:26
 enum-told-2 : tie.Need-enum-told-2
 enum-told-2 c = search needs
 
--- src/lib.rt:272:1
 returns-3 : tie.Need-returns-3
 returns-3 c = c .read-header .ensures ∙ found (c .before .before .before .before .before) _ (c .before .enum-told .given .1)
 
--- src/lib.rt:272:1
 returns-4 : tie.Need-returns-4
 returns-4 c = c .read-after-header .ensures ∙ found (c .before .before .before .before .before .before) _ (c .before .before .place .given .1)
 
--- src/lib.rt:272:1
 returns-5 : tie.Need-returns-5
 returns-5 c =
     let a = c .before .before .before .before .before .before .before .args in

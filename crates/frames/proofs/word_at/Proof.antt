@@ -2,7 +2,7 @@
 use Prim.Native.Nat.{_+_}
 use native.Mathlib.Omega.{arith}
 use borrow.Author.Needs.{needs}
-use Rattle.frames.specs.Frames.{byte-from, word-from}
+use Rattle.frames.specs.Frames.{word-from}
 use Rattle.frames.proofs.Numbers.{byte-most}
 use Rattle.frames.proofs.word_at.Statement.{statement}
 use Rattle.frames.proofs.word_at.Tie as tie

@@ -2,7 +2,7 @@
 -- every entry fits is what the rows' types say.
 use native.Mathlib.Omega.{arith}
 use borrow.Author.Needs.{needs}
-use Rattle.network.specs.RowsCheck.{rows-of}
+use Rattle.network.specs.Rows.{rows-of}
 use Rattle.network.proofs.RowsCheck.{InRange}
 use Rattle.network.proofs.Checked.{checked-network, checked-refused}
 use Rattle.network.proofs.rows.check.Statement.{statement}

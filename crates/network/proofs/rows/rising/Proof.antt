@@ -1,6 +1,6 @@
 -- `network::rows::rising` meets its contract. The loop's invariant: whether the fan-ins from i on rise from the least on is
 -- whether all of them rise.
-use Prim.Native.Nat.{_+_, _-_, _≤_}
+use Prim.Native.Nat.{_-_, _≤_}
 use mathlib.Core.Path.{_≡_, refl, sym, _∙_}
 use mathlib.Core.Logic.{⊎-elim}
 use native.Mathlib.Omega.{arith}

@@ -1,6 +1,6 @@
 -- `network::rows::too_long` meets its contract. The loop's invariant: the bytes counted, and those of the gates from v on, are
 -- the text's. Where it is left early they are too many already.
-use Prim.Native.Nat.{_+_, _-_, _≤_}
+use Prim.Native.Nat.{_+_, _-_}
 use mathlib.Core.Path.{_≡_, sym, _∙_}
 use mathlib.Core.Logic.{⊎-elim}
 use native.Mathlib.Omega.{arith}

@@ -1,6 +1,5 @@
 -- `network::rows::too_short` meets its contract: the four tests are those of `too-short`, the last one without the product.
-use Prim.Native.Nat.{ℕ, _*_, _/_}
-use mathlib.Core.Path.{_≡_, _∙_, ap}
+use mathlib.Core.Path.{_≡_}
 use mathlib.Core.Logic.{⊎-elim}
 use mathlib.Core.Bool.{_||_}
 use borrow.Author.Tests.{lt-ltb, le-ltb}

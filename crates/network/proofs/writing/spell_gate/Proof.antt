@@ -3,9 +3,9 @@ use Prim.Native.Nat.{ℕ, _≤_}
 use mathlib.Core.List.{List}
 use native.Mathlib.Omega.{arith}
 use lib.ListN.{length}
-use Rattle.network.specs.Rows.{Rows}
+use Rattle.network.specs.Rows.{Rows, rows-of}
 use Rattle.network.specs.Spelling.{spell-line}
-use Rattle.network.specs.Writing.{rows-of, gate-line}
+use Rattle.network.specs.Writing.{gate-line}
 use Rattle.network.proofs.Puts.{Stands}
 use Rattle.network.proofs.WrittenLines.{line-short, feed-fits, line-ends, gate-stands, stored-frame, length-stored, length-stored-line, gate-line-is, length-gate}
 use borrow.Author.Needs.{needs}

@@ -2,8 +2,7 @@
 -- the next one the end, and past it there is none.
 use Prim.Native.Nat.{_<_, _-_}
 use native.Mathlib.Omega.{arith}
-use Rattle.network.specs.Rows.{Rows}
-use Rattle.network.specs.Writing.{rows-of}
+use Rattle.network.specs.Rows.{Rows, rows-of}
 use Rattle.network.proofs.WrittenLines.{header-at, gate-at, end-at, none-at, line-none, stored}
 use borrow.Author.Needs.{needs}
 use Rattle.network.proofs.writing.spell_line.Statement.{statement}

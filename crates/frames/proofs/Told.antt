@@ -1,0 +1,195 @@
+-- What an answer of `read_line` tells its caller of the lines that are left: there is none; the first has this fault; or
+-- the first is this frame, without fault, and the others begin where the answer says.
+use Prim.Native.Nat.{ℕ, _+_, _≤_, _<_}
+use mathlib.Core.Path.{_≡_, refl, sym, ap, _∙_}
+use mathlib.Core.Bool.{Bool, true, false, cond, _||_}
+use mathlib.Core.List.{List, [], _∷_}
+use mathlib.Core.Option.{Option, none, some}
+use mathlib.Core.Logic.{_⊎_, inl, inr, ⊎-elim}
+use native.Mathlib.Omega.{arith}
+use native.Mathlib.Decide.{decLt}
+use lib.ListN.{length, drop, drop-of-length-le}
+use lib.Seq.{slice}
+use lib.Dec.{eqb}
+use borrow.Author.Tests.{eqb-true, eqb-false, not-false}
+use Rattle.units.specs.Units.{cells, ticks}
+use Rattle.units.specs.declared.Cells.{Cells}
+use Rattle.units.specs.declared.Ticks.{Ticks}
+use Rattle.units.specs.declared.FanInCount.{FanInCount}
+use Rattle.frames.specs.declared.Place.{Place}
+use Rattle.frames.specs.declared.Place.the-variants.{Opening, AfterGates, Closed}
+use Rattle.frames.specs.declared.LineRead.{LineRead}
+use Rattle.frames.specs.declared.LineRead.the-variants.{Header, Gate, End, Refused, Nothing}
+use Rattle.frames.specs.Text.{Line, lines}
+use Rattle.frames.specs.Table.{fault, misplaced, kind, header-capacity, header-hop, gate-of, gate-count}
+use Rattle.frames.specs.Frames.{frame, told, judged, line-read, line-from, line-length}
+use Rattle.frames.proofs.Formed.{formed}
+use Rattle.frames.proofs.Rows.{faultless}
+use Rattle.frames.proofs.OfLine.{next-is}
+use Rattle.frames.proofs.Lines.{lines-from, read-first, read-past}
+
+-- Two constructors are never equal.
+never : {P : Type 0} → _≡_ {A = ℕ} 0 1 → P
+never e = absurd (omega arith)
+
+-- where the next line begins, if the answer is a frame
+abbrev pub next-of : LineRead → Option ℕ
+next-of (Header c h n) = some n
+next-of (Gate w d k n) = some n
+next-of (End n) = some n
+next-of (Refused k m) = none
+next-of Nothing = none
+
+-- The first line of those left is without fault, and is the frame that was read; the others begin at `next`.
+pub record FrameRead (text : List ℕ) (at : ℕ) (p : Place) (next : ℕ) (r : LineRead) : Type 0 where
+  pub line : Line
+  pub first : lines (drop at text) ≡ line ∷ lines (drop next text)
+  pub right : fault p line ≡ none
+  pub is : frame line next ≡ r
+  pub onward : at < next
+  pub inside : next ≤ length text
+
+-- The first line of those left has this fault.
+pub record FaultRead (text : List ℕ) (at : ℕ) (p : Place) (number : ℕ) : Type 0 where
+  pub line : Line
+  pub rest : List Line
+  pub first : lines (drop at text) ≡ line ∷ rest
+  pub wrong : fault p line ≡ some number
+
+-- A frame is the one that its type says.
+pub data Typed (l : Line) (n : ℕ) (r : LineRead) : Type 0 where
+  header : kind l ≡ 0x01 → r ≡ Header (cells (header-capacity l)) (ticks (header-hop l)) n → Typed l n r
+  gate : kind l ≡ 0x02 → r ≡ Gate (cells (gate-of l .weight)) (ticks (gate-of l .delay)) (record { 0 = gate-count l }) n → Typed l n r
+  end : (kind l ≡ 0x01 → ⊥) → (kind l ≡ 0x02 → ⊥) → r ≡ End n → Typed l n r
+
+pub typed : (l : Line) (n : ℕ) → Typed l n (frame l n)
+unfolding frame
+typed l n = by (eqb (kind l) 0x01) (eqb (kind l) 0x02) refl refl
+  where
+    by : (t u : Bool) → eqb (kind l) 0x01 ≡ t → eqb (kind l) 0x02 ≡ u
+        → Typed l n
+        (cond t (Header (cells (header-capacity l)) (ticks (header-hop l)) n)
+        (cond u (Gate (cells (gate-of l .weight)) (ticks (gate-of l .delay)) (record { 0 = gate-count l }) n) (End n)))
+    by true u e f = header (eqb-true _ _ e) refl
+    by false true e f = gate (eqb-true _ _ f) refl
+    by false false e f = end (eqb-false _ _ e) (eqb-false _ _ f) refl
+
+frame-next : (l : Line) (n : ℕ) → next-of (frame l n) ≡ some n
+frame-next l n = by (typed l n)
+  where
+    by : Typed l n (frame l n) → next-of (frame l n) ≡ some n
+    by (header k e) = ap next-of e
+    by (gate k e) = ap next-of e
+    by (end k h e) = ap next-of e
+
+-- an answer with a next line was judged to have no fault, and one without was not
+none-told : (o : Option ℕ) (line : ℕ) (f r : LineRead) (next : ℕ) → told o line f ≡ r → next-of r ≡ some next → (o ≡ none) × (f ≡ r)
+unfolding told
+none-told none line f r next e n = (refl, e)
+none-told (some k) line f r next e n = never (cc (ap next-of e))
+
+some-told : (o : Option ℕ) (line : ℕ) (f : LineRead) (n k m : ℕ) → next-of f ≡ some n → told o line f ≡ Refused k m → (o ≡ some k) × (m ≡ line)
+unfolding told
+some-told none line f n k m h e = never cc
+some-told (some j) line f n k m h e = (cc, cc)
+
+nothing-judged : (o : Option ℕ) (line : ℕ) (f : LineRead) (n : ℕ) → next-of f ≡ some n → told o line f ≡ Nothing → ⊥
+unfolding told
+nothing-judged none line f n h e = never cc
+nothing-judged (some j) line f n h e = never cc
+
+module _ (text : List ℕ) (at : ℕ) (p : Place) (line : ℕ) where
+  -- no line is left, or there is a first one
+  left : (length text ≤ at) ⊎ (at < length text)
+  left = elim (decLt at (length text)) [ yes h ↦ inr h | no h ↦ inl (omega arith) ]
+
+  there : at < length text → (r : LineRead) (next : ℕ) → line-read text at p line ≡ r → next-of r ≡ some next → FrameRead text at p next r
+  unfolding judged
+  there h r next e n =
+      let end = at + line-length (drop at text) in
+      let l = line-from text at end in
+      let m = at + length (slice at end text) + 1 in
+      let given = none-told (fault p l) line (frame l m) r next (sym (read-first text at end h refl p line) ∙ e) n in
+      let form = formed p text at end (faultless p l (given .0) .formed) in
+      let same : m ≡ next = cc (frame-next l m, ap next-of (given .1)) in
+      let behind : end + 1 ≡ next = sym (next-is form) ∙ same in
+      record {
+        line = l;
+        first = lines-from text at end h refl ∙ ap (λ k. l ∷ lines (drop k text)) behind;
+        right = given .0;
+        is = ap (frame l) (sym same) ∙ given .1;
+        onward = omega arith;
+        inside = omega arith;
+      }
+
+  pub frame-told : (r : LineRead) (next : ℕ) → line-read text at p line ≡ r → next-of r ≡ some next → FrameRead text at p next r
+  frame-told r next e n = ⊎-elim (λ h. never (cc (read-past text at p line h))) (λ h. there h r next e n) left
+
+  refused-there : at < length text → (k m : ℕ) → line-read text at p line ≡ Refused k m → FaultRead text at p k × (m ≡ line)
+  unfolding judged
+  refused-there h k m e =
+      let end = at + line-length (drop at text) in
+      let l = line-from text at end in
+      let n = at + length (slice at end text) + 1 in
+      let given = some-told (fault p l) line (frame l n) n k m (frame-next l n) (sym (read-first text at end h refl p line) ∙ e) in
+      (record { line = l; rest = lines (drop (end + 1) text); first = lines-from text at end h refl; wrong = given .0 }, given .1)
+
+  pub refused-told : (k m : ℕ) → line-read text at p line ≡ Refused k m → FaultRead text at p k × (m ≡ line)
+  refused-told k m e = ⊎-elim (λ h. never (cc (read-past text at p line h))) (λ h. refused-there h k m e) left
+
+  nothing-there : at < length text → line-read text at p line ≡ Nothing → ⊥
+  unfolding judged
+  nothing-there h e =
+      let end = at + line-length (drop at text) in
+      let l = line-from text at end in
+      let n = at + length (slice at end text) + 1 in
+      nothing-judged (fault p l) line (frame l n) n (frame-next l n) (sym (read-first text at end h refl p line) ∙ e)
+
+  pub nothing-told : line-read text at p line ≡ Nothing → lines (drop at text) ≡ []
+  unfolding lines
+  nothing-told e = ⊎-elim (λ h. ap lines (drop-of-length-le text {i = at} h)) (λ h. absurd (nothing-there h e)) left
+
+-- The frame of a line without fault is the one that has its place there.
+pub opening-header : (l : Line) → fault Opening l ≡ none → kind l ≡ 0x01
+unfolding misplaced
+opening-header l e = eqb-true _ _ (not-false _ (faultless Opening l e .placed))
+
+pub closed-never : (l : Line) → fault Closed l ≡ none → ⊥
+unfolding misplaced
+closed-never l e = let no-place = faultless Closed l e .placed in never cc
+
+pub gate-or-end : (g : ℕ) (l : Line) → fault (AfterGates g) l ≡ none → (kind l ≡ 0x02) ⊎ (kind l ≡ 0x0F)
+unfolding misplaced
+gate-or-end g l e = by (eqb (kind l) 0x02) refl (not-false _ (faultless (AfterGates g) l e .placed))
+  where
+    by : (t : Bool) → eqb (kind l) 0x02 ≡ t → (t || eqb (kind l) 0x0F) ≡ true → (kind l ≡ 0x02) ⊎ (kind l ≡ 0x0F)
+    by true f h = inl (eqb-true _ _ f)
+    by false f h = inr (eqb-true _ _ h)
+
+-- What a frame says is what the table reads in its line.
+module _ (l : Line) (n : ℕ) where
+  pub header-is : {c : Cells} {h : Ticks} {m : ℕ} → frame l n ≡ Header c h m
+      → (kind l ≡ 0x01) × (c .0 ≡ header-capacity l) × (h .0 ≡ header-hop l)
+  header-is {c} {h} {m} e = by (typed l n)
+    where
+      by : Typed l n (frame l n) → (kind l ≡ 0x01) × (c .0 ≡ header-capacity l) × (h .0 ≡ header-hop l)
+      by (header k f) = (k, cc, cc)
+      by (gate k f) = never cc
+      by (end k j f) = never cc
+
+  pub gate-is : {w : Cells} {d : Ticks} {k : FanInCount} {m : ℕ} → frame l n ≡ Gate w d k m
+      → (kind l ≡ 0x02) × (w .0 ≡ gate-of l .weight) × (d .0 ≡ gate-of l .delay) × (k .0 ≡ gate-count l)
+  gate-is {w} {d} {k} {m} e = by (typed l n)
+    where
+      by : Typed l n (frame l n) → (kind l ≡ 0x02) × (w .0 ≡ gate-of l .weight) × (d .0 ≡ gate-of l .delay) × (k .0 ≡ gate-count l)
+      by (header t f) = never cc
+      by (gate t f) = (t, cc, cc, cc)
+      by (end t j f) = never cc
+
+  pub end-is : {m : ℕ} → frame l n ≡ End m → (kind l ≡ 0x01 → ⊥) × (kind l ≡ 0x02 → ⊥)
+  end-is {m} e = by (typed l n)
+    where
+      by : Typed l n (frame l n) → (kind l ≡ 0x01 → ⊥) × (kind l ≡ 0x02 → ⊥)
+      by (header t f) = never cc
+      by (gate t f) = never cc
+      by (end t j f) = (t, j)
