@@ -1,8 +1,8 @@
 pub mod Lists
-pub mod Onward
-pub mod Order
-pub mod Growth
-pub mod Label
-pub mod Labels
+pub mod OnwardLaws
+pub mod OrderLaws
+pub mod GrowthLaws
+pub mod LabelLaws
+pub mod LabelsLaws
 pub mod Loaded
-pub mod Members
+pub mod MemberLaws

@@ -71,7 +71,7 @@ pub record Arranged (v : ℕ) (onward pulls row : List ℕ) (count : ℕ) : Type
 -- The row tells the onward delays to v of the gates up to v, coded as the model's row. No entry comes near 64 bits.
 pub record Reached (n : Network) (v : ℕ) (row : List ℕ) : Type 0 where
   pub entries : take (suc v) row ≡ take (suc v) (reach n v)
-  pub small : (u : ℕ) → getD row u 0 ≤ most-delay * suc v + 1
+  pub small : (u : ℕ) → u < suc v → getD row u 0 ≤ most-delay * suc v + 1
 
 -- The cone of v, v excepted, in the two rows: how much each gate pulls, and the gates by pull.
 pub record InOrder (n : Network) (labels : List ℕ) (v : ℕ) (pulls row : List ℕ) (count : ℕ) : Type 0 where
