@@ -10,9 +10,9 @@ use Rattle.model.specs.Network.{Network, size}
 use Rattle.model.specs.Drawing.{members}
 use Rattle.network.specs.Spelling.{spell-line}
 use Rattle.network.specs.Writing.{line-at}
+use Rattle.network.proofs.Made.{length-made, getD-made}
 use Rattle.drawing.specs.Result.{result-lines, delay-from, result-bytes, label-bytes, cluster-bytes, result-end-bytes}
 use Rattle.drawing.specs.Drawn.{later-lines}
-use Rattle.drawing.proofs.Marks.{length-upto, map-upto}
 
 -- the k-th of two lists of lines, one after the other
 after : (xs ys : List (List ℕ)) (i : ℕ) → length xs ≤ i → getD (xs ++ ys) i [] ≡ getD ys (i - length xs) []
@@ -30,7 +30,7 @@ module _ (n : Network) (labels rs : List ℕ) where
   label-lines = map (λ v. spell-line (label-bytes v (getD labels v 0))) (upto (size n))
 
   length-labels : length label-lines ≡ size n
-  length-labels = length-map (upto (size n)) _ ∙ length-upto (size n)
+  length-labels = length-made (λ v. spell-line (label-bytes v (getD labels v 0))) (size n)
 
   parts : result-lines n labels rs ≡ spell-line (result-bytes (delay-from n labels) (length rs)) ∷ (label-lines ++ later-lines n labels rs)
   unfolding result-lines later-lines
@@ -49,7 +49,7 @@ module _ (n : Network) (labels rs : List ℕ) where
       let e : suc i - 1 ≡ i = omega arith in
       rw (e, parts)
       (List·getD-append label-lines (later-lines n labels rs) [] i (omega (arith, length-labels))
-      ∙ map-upto (λ v. spell-line (label-bytes v (getD labels v 0))) (size n) i [] (omega arith))
+      ∙ getD-made (λ v. spell-line (label-bytes v (getD labels v 0))) [] (size n) i (omega arith))
 
   pub later-at : (i : ℕ) → (i ≡ 0 → ⊥) → size n ≤ i - 1 → line-at i (result-lines n labels rs) ≡ line-at (i - 1 - size n) (later-lines n labels rs)
   unfolding line-at

@@ -9,15 +9,16 @@ use native.Mathlib.Numerals.{add-one}
 use native.Mathlib.Omega.{arith}
 use borrow.Author.Tests.{eq-eqb, ne-eqb, lt-ltb, le-ltb}
 use lib.Dec.{eqb, ltb}
-use lib.ListN.{length, getD, set, take, drop, replicate, length-set, length-append, length-map, length-drop, length-replicate, getD-replicate, List·getD-append, drop-of-length-le}
+use lib.ListN.{length, getD, set, take, drop, replicate, length-set, length-append, length-drop, length-replicate, getD-replicate, List·getD-append, drop-of-length-le}
 use lib.Seq.{drop-cons, getD-set-same, getD-set-other, ext-getD, set-at, getD-at}
 use Rattle.model.specs.Basics.{_∈_, member, keep, gather, upto, largest}
 use Rattle.model.specs.Drawing.{mark}
 use Rattle.model.proofs.Lists.{true-or-false, not-both, same-or-not, true-member, false-member, in-keep, keep-in, in-upto, keep-append, keep-yes, keep-no}
+use Rattle.network.proofs.Made.{length-made, getD-made}
 use Rattle.network.proofs.Puts.{gather-append}
 use Rattle.model.specs.Ceilings.{most-gates, most-fanins}
 use Rattle.labelling.specs.Standing.{Below, row-fanins}
-use Rattle.labelling.proofs.Onward.{part-is}
+use Rattle.labelling.proofs.OnwardLaws.{part-is}
 use Rattle.drawing.specs.Selection.{Placed, fanins-of, unmarked, largest-label, or-label, outside, roots}
 
 -- marks, a gate at a time
@@ -130,21 +131,6 @@ largest-below k labels (v ∷ vs) some h = let rest = largest-below k labels vs 
 abbrev pub start-mark : List ℕ → ℕ → ℕ
 start-mark row v = cond (eqb (getD row v 0) 0) 1 0
 
-pub length-upto : (k : ℕ) → length (upto k) ≡ k
-unfolding upto
-length-upto zero = refl
-length-upto (suc k) = omega (arith, length-append (upto k) (k ∷ []), length-upto k)
-
-pub map-upto : {A : Type 0} (f : ℕ → A) (k v : ℕ) (d : A) → v < k → getD (map f (upto k)) v d ≡ f v
-unfolding upto
-map-upto f zero v d h = absurd (omega arith)
-map-upto f (suc k) v d h =
-    let long = length-map (upto k) f ∙ length-upto k in
-    ap (λ (r : List _). getD r v d) (map-append f (upto k) (k ∷ []))
-    ∙ ⊎-elim (λ (e : v ≡ k). rw e (getD-at (map f (upto k)) (f k) [] d k long))
-    (λ (e : v ≡ k → ⊥). List·getD-append (map f (upto k)) (f k ∷ []) d v (omega arith) ∙ map-upto f k v d (omega arith))
-    (same-or-not v k)
-
 -- so many marks in front, the rest of the row as it was
 abbrev pub Started : List ℕ → ℕ → List ℕ → List ℕ → Type 0
 Started row v marks₀ marks = marks ≡ map (start-mark row) (upto v) ++ drop v marks₀
@@ -157,7 +143,7 @@ pub started-long : (row marks₀ marks : List ℕ) (v : ℕ) → v ≤ length ma
 started-long row marks₀ marks v h s =
     ap length s
     ∙ length-append (map (start-mark row) (upto v)) (drop v marks₀)
-    ∙ omega (arith, length-map (upto v) (start-mark row), length-upto v, length-drop v marks₀)
+    ∙ omega (arith, length-made (start-mark row) v, length-drop v marks₀)
 
 pub started-next : (row marks₀ marks : List ℕ) (v m : ℕ) → v < length marks₀ → Started row v marks₀ marks → m ≡ start-mark row v
     → Started row (v + 1) marks₀ (set marks v m)
@@ -165,7 +151,7 @@ unfolding upto
 started-next row marks₀ marks v m h s e =
     let front = map (start-mark row) (upto v) in
     rw (add-one, s, e, drop-cons marks₀ v 0)
-    (set-at front (getD marks₀ v 0) (drop (suc v) marks₀) (start-mark row v) v (length-map (upto v) (start-mark row) ∙ length-upto v)
+    (set-at front (getD marks₀ v 0) (drop (suc v) marks₀) (start-mark row v) v (length-made (start-mark row) v)
     ∙ sym (ap (λ (r : List ℕ). r ++ drop (suc v) marks₀) (map-append (start-mark row) (upto v) (v ∷ [])) ∙ append-assoc front (start-mark row v ∷ []) (drop (suc v) marks₀)))
 
 member-keep : (f : ℕ → Bool) (k v : ℕ) → v < k → member v (keep f (upto k)) ≡ f v
@@ -182,10 +168,10 @@ started-all row marks₀ marks v e s =
     ∙ ap (λ (r : List ℕ). map (start-mark row) (upto v) ++ r) (drop-of-length-le marks₀ none-left)
     ∙ append-nil (map (start-mark row) (upto v))
     ∙ ext-getD 0 (map (start-mark row) (upto v)) (mark (replicate v 0) (keep unread (upto v)))
-    (omega (arith, length-map (upto v) (start-mark row), length-upto v, length-mark (replicate v 0) (keep unread (upto v)), length-replicate {A = ℕ} v 0))
+    (omega (arith, length-made (start-mark row) v, length-mark (replicate v 0) (keep unread (upto v)), length-replicate {A = ℕ} v 0))
     (λ i h.
-    let below : i < v = omega (arith, length-map (upto v) (start-mark row), length-upto v) in
-    map-upto (start-mark row) v i 0 below
+    let below : i < v = omega (arith, length-made (start-mark row) v) in
+    getD-made (start-mark row) 0 v i below
     ∙ sym
     (mark-at (replicate v 0) (keep unread (upto v)) i (omega (arith, length-replicate {A = ℕ} v 0))
     ∙ rw (member-keep unread v i below, getD-replicate {A = ℕ} v i 0 0 below)))

@@ -8,7 +8,7 @@ use borrow.Author.Needs.{needs}
 use lib.ListN.{length, getD, drop}
 use Rattle.model.specs.Drawing.{mark}
 use Rattle.labelling.proofs.Lists.{getD-in}
-use Rattle.labelling.proofs.Onward.{part-is}
+use Rattle.labelling.proofs.OnwardLaws.{part-is}
 use Rattle.drawing.specs.Selection.{outside, fanins-of}
 use Rattle.drawing.proofs.Marks.{placed-below, inputs-next, inputs-done}
 use Rattle.drawing.proofs.selection.mark_inputs.Statement.{statement}

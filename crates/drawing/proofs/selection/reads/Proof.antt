@@ -8,7 +8,7 @@ use borrow.Author.Needs.{needs}
 use lib.ListN.{getD}
 use Rattle.model.specs.Basics.{gather, upto}
 use Rattle.model.specs.Drawing.{mark}
-use Rattle.labelling.proofs.Onward.{part-is}
+use Rattle.labelling.proofs.OnwardLaws.{part-is}
 use Rattle.drawing.specs.Selection.{fanins-of}
 use Rattle.drawing.proofs.Marks.{fanins-next, placed-part}
 use Rattle.drawing.proofs.selection.reads.Statement.{statement}
