@@ -7,8 +7,8 @@ use mathlib.Core.List.{List, [], _∷_, _++_, List·Memᴰ·head, List·Memᴰ·
 use native.Mathlib.Omega.{arith}
 use borrow.Author.Tests.{lt-ltb, le-ltb}
 use lib.Dec.{eqb, ltb}
-use lib.ListN.{length, getD, replicate, length-replicate, getD-replicate, List·getD-append}
-use lib.Seq.{ext-getD}
+use lib.ListN.{length, getD, take, drop, replicate, length-append, length-replicate, getD-replicate, List·getD-append}
+use lib.Seq.{ext-getD, take-at}
 use Rattle.model.specs.Basics.{_∈_, member, keep, gather, upto}
 use Rattle.model.specs.Ceilings.{most-gates}
 use Rattle.model.specs.Network.{Network, size, fanins as fanins-in, outputs, position, gate-at, WellFormed}
@@ -18,7 +18,7 @@ use Rattle.model.proofs.Lists.{true-or-false, member-true, true-member, false-m
 use Rattle.model.proofs.UpperBound.{member-position}
 use Rattle.model.proofs.Drawn.{length-select}
 use Rattle.labelling.specs.Standing.{Below, row-fanins, Timed}
-use Rattle.drawing.specs.Selection.{Placed, fanins-of, unread, outside, roots}
+use Rattle.drawing.specs.Selection.{fanins-of, unread, outside, roots, Found}
 use Rattle.drawing.proofs.Marks.{mark-at, length-mark, keep-agree}
 use Rattle.drawing.proofs.Unread.{fanins-are, outputs-are}
 
@@ -148,3 +148,25 @@ pub selected :
 unfolding marks
 selected n gates delays counts fanins l t s few =
     rw (← outputs-are n gates delays counts fanins t s few, ← s)
+
+-- The members of a cluster found in front of a row.
+pub found-front : {gates before : List ℕ} {count : ℕ} {after : List ℕ} → Found gates before count after → take count after ≡ gates
+found-front {gates} {before} {count} f =
+    ap (take count) (f .row-is) ∙ take-at gates (drop (length gates) before) count (sym (f .many))
+
+pub found-fits : {gates before : List ℕ} {count : ℕ} {after : List ℕ} → Found gates before count after → count ≤ length after
+found-fits {gates} {before} f = omega (arith, f .many, ap length (f .row-is), length-append gates (drop (length gates) before))
+
+-- What the code marks for a root, from the members that it found.
+pub inputs-drawn :
+    (n : Network) (wf : WellFormed n) (gates : ℕ) (delays counts fanins l : List ℕ) (r : ℕ) → Timed n gates delays counts fanins → size n ≡ gates
+    → gates ≤ most-gates
+    → r < gates
+    → (found : List ℕ)
+    → found ≡ members n l r
+    → (row : List ℕ)
+    → mark row (outside (mark (replicate most-gates 0) found) (fanins-of counts fanins found)) ≡ mark row (inputs n l r)
+inputs-drawn n wf gates delays counts fanins l r t s few known found e row =
+    let below : (x : ℕ) → x ∈ members n l r → x < gates = λ x m. omega (arith, members-below n wf l r (omega arith) x m) in
+    rw (e, fanins-are n gates delays counts fanins t (members n l r) below)
+    (inputs-marked n wf l r (omega arith) (omega arith) row)

@@ -1,9 +1,10 @@
 -- What selection finds in the rows, step by step.
 use Prim.Native.Nat.{ℕ, _*_, _≤_, _<_, max}
+use mathlib.Core.Path.{_≡_}
 use mathlib.Core.Bool.{cond}
-use mathlib.Core.List.{List, map}
+use mathlib.Core.List.{List, _++_, map}
 use lib.Dec.{eqb, ltb}
-use lib.ListN.{length, getD, replicate}
+use lib.ListN.{length, getD, drop, replicate}
 use Rattle.model.specs.Basics.{keep, gather, upto, largest}
 use Rattle.model.specs.Ceilings.{most-gates, most-fanins}
 use Rattle.model.specs.Drawing.{mark}
@@ -45,3 +46,8 @@ outside inside gates = keep (λ x. eqb (getD inside x 0) 0) gates
 -- the gates below k with a mark, rising: the roots of the drawn clusters
 unfoldable pub roots : List ℕ → ℕ → List ℕ
 roots marks k = keep (λ r. ltb 0 (getD marks r 0)) (upto k)
+
+-- some gates found, in front of a row, the rest of the row as it was
+pub record Found (gates before : List ℕ) (count : ℕ) (after : List ℕ) : Type 0 where
+  pub many : count ≡ length gates
+  pub row-is : after ≡ gates ++ drop (length gates) before

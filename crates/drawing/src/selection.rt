@@ -10,7 +10,7 @@ ghost use lib.Dec.{eqb};
 ghost use lib.ListN.{length, getD, set, replicate};
 ghost use Rattle.model.specs.Basics.{upto};
 ghost use Rattle.model.specs.Ceilings.{most-gates};
-ghost use Rattle.model.specs.Drawing.{mark};
+ghost use Rattle.model.specs.Drawing.{mark, inputs, select, members as members-in};
 ghost use Rattle.labelling.specs.Standing.{Below};
 ghost use Rattle.drawing.specs.Selection.{
   Placed,
@@ -21,7 +21,9 @@ ghost use Rattle.drawing.specs.Selection.{
   or-label,
   outside,
   roots,
+  Found,
 };
+ghost use Rattle.drawing.specs.Drawn.{standing, Ready};
 
 // A mark for each gate.
 type Marks = [u8; GateNumber::MOST_GATES];
@@ -173,4 +175,101 @@ pub(crate) fn nth_marked(gates: usize, marks: &[u8], index: usize) -> usize
         }
     }
     gates
+}
+
+// The members of the cluster of a root, rising, in front of a row. How many.
+pub(crate) fn members_of(
+    capacity: u32,
+    hop: u16,
+    gates: usize,
+    weights: &[u16],
+    delays: &[u16],
+    counts: &[u8],
+    fanins: &[u16],
+    labels: &[u32],
+    root: usize,
+    members: &mut [u16],
+) -> usize
+    requires { ⌜ Ready capacity hop gates (now weights) (now delays) (now counts) (now fanins) ⌝ }
+    requires { ⌜ (gates ≤ length (now labels)) × (gates ≤ length (now members)) ⌝ }
+    ensures { λ r. ⌜ Found
+        (members-in (standing capacity hop gates (now (weights .entry)) (now (delays .entry)) (now (counts .entry)) (now (fanins .entry))) (now (labels .entry)) root)
+        (now (members .entry)) r (now (members .exit)) ⌝ }
+{
+    0
+}
+
+// The inputs of a root's cluster marked.
+fn draw_inputs(
+    capacity: u32,
+    hop: u16,
+    gates: usize,
+    weights: &[u16],
+    delays: &[u16],
+    counts: &[u8],
+    fanins: &[u16],
+    labels: &[u32],
+    root: usize,
+    marks: &mut [u8],
+)
+    requires { ⌜ Ready capacity hop gates (now weights) (now delays) (now counts) (now fanins) ⌝ }
+    requires { ⌜ (gates ≤ length (now labels)) × (length (now marks) ≡ gates) × (root < gates) ⌝ }
+    ensures { λ _. ⌜ now (marks .exit)
+        ≡ mark (now (marks .entry))
+        (inputs (standing capacity hop gates (now (weights .entry)) (now (delays .entry)) (now (counts .entry)) (now (fanins .entry))) (now (labels .entry)) root) ⌝ }
+{
+    let mut members = [0; GateNumber::MOST_GATES];
+    let count = members_of(
+        capacity,
+        hop,
+        gates,
+        weights,
+        delays,
+        counts,
+        fanins,
+        labels,
+        root,
+        &mut members,
+    );
+    let mut inside = [0; GateNumber::MOST_GATES];
+    mark(&mut inside, &members[..count]);
+    mark_inputs(marks, &inside, counts, fanins, &members[..count]);
+}
+
+// "Whenever a cluster is drawn, so is the cluster of each of its inputs": from the last gate to the first, since the
+// inputs of a cluster stand below its root.
+fn sweep(
+    capacity: u32,
+    hop: u16,
+    gates: usize,
+    weights: &[u16],
+    delays: &[u16],
+    counts: &[u8],
+    fanins: &[u16],
+    labels: &[u32],
+    marks: &mut [u8],
+)
+    requires { ⌜ Ready capacity hop gates (now weights) (now delays) (now counts) (now fanins) ⌝ }
+    requires { ⌜ (gates ≤ length (now labels)) × (length (now marks) ≡ gates) ⌝ }
+    ensures { λ _. ⌜ now (marks .exit)
+        ≡ select (standing capacity hop gates (now (weights .entry)) (now (delays .entry)) (now (counts .entry)) (now (fanins .entry))) (now (labels .entry)) gates (now (marks .entry)) ⌝ }
+{
+    let mut left = gates;
+    while left > 0 {
+        left -= 1;
+        if marks[left] != 0 {
+            draw_inputs(
+                capacity,
+                hop,
+                gates,
+                weights,
+                delays,
+                counts,
+                fanins,
+                labels,
+                left,
+                marks,
+            );
+        }
+    }
 }
