@@ -6,3 +6,4 @@ pub mod LabelLaws
 pub mod LabelsLaws
 pub mod Loaded
 pub mod MemberLaws
+pub mod AnswerLaws
