@@ -7,3 +7,4 @@ pub mod LabelsLaws
 pub mod Loaded
 pub mod MemberLaws
 pub mod AnswerLaws
+pub mod Unique
