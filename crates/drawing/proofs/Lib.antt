@@ -6,3 +6,4 @@ pub mod ResultLines
 pub mod Selected
 pub mod LineAt
 pub mod SameLabels
+pub mod Answered

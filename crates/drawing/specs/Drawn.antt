@@ -1,14 +1,13 @@
 -- What selecting and the writing of a result answer, and what they leave in the lent rows.
 use Prim.Native.Nat.{ℕ}
 use mathlib.Core.Path.{_≡_}
-use mathlib.Core.Bool.{Bool, cond, _||_}
+use mathlib.Core.Bool.{cond}
 use mathlib.Core.List.{List, [], _∷_, _++_, map}
-use lib.Dec.{ltb}
 use lib.ListN.{length, drop}
 use Rattle.model.specs.Network.{Network, size, WellFormed}
 use Rattle.model.specs.Drawing.{marks, drawn, members}
 use Rattle.network.specs.Reading.{Reading, refused, network}
-use Rattle.network.specs.Rows.{Rows, rows-of, rows-network}
+use Rattle.network.specs.Rows.{rows-of, rows-network}
 use Rattle.network.specs.Spelling.{rows-answer, spell-line}
 use Rattle.network.specs.Writing.{line-at, line-answer, line-row}
 use Rattle.network.specs.declared.writing.Written.{Written}
@@ -17,6 +16,7 @@ use Rattle.drawing.specs.declared.Drawing.{Drawing}
 use Rattle.drawing.specs.declared.Drawing.the-variants as drawing
 use Rattle.drawing.specs.Result.{result-lines, delay-from, cluster-bytes, result-end-bytes}
 use Rattle.labelling.specs.Standing.{Timed}
+use Rattle.labelling.specs.Answers.{no-room}
 use Rattle.drawing.specs.Selection.{Placed, roots}
 
 -- the network that stands in the rows
@@ -32,26 +32,21 @@ pub record Ready (capacity hop gates : ℕ) (weights delays counts fanins : List
   pub timed : Timed (standing capacity hop gates weights delays counts fanins) gates delays counts fanins
   pub placed : Placed gates counts fanins
 
--- "a row shorter than its formula": the labels and the marks need a place for each gate
-unfoldable pub no-room : ℕ → List ℕ → List ℕ → Bool
-no-room gates labels row = ltb (length labels) gates || ltb (length row) gates
-
--- Selecting: a refusal of the text that the rows spell is handed on. "Counts of clusters .. equal the selection's own sets".
+-- Selecting: a refusal of the text that the rows spell is handed on; the labels and the marks need a place for each gate.
+-- "Counts of clusters .. equal the selection's own sets".
 unfoldable pub drawn-answer : Reading → List ℕ → List ℕ → Drawing
-unfolding size no-room drawn delay-from
 drawn-answer (refused k at) labels row = drawing.Refused k at
 drawn-answer (network n) labels row =
-    cond (no-room (size n) labels row) (drawing.Refused 10 0) (drawing.Drawn (length (drawn n labels)) (delay-from n labels))
+    cond (no-room n labels row) (drawing.Refused 10 0) (drawing.Drawn (length (drawn n labels)) (delay-from n labels))
 
 -- The row afterwards: the marks in front, the rest as it was; on a refusal all of it as it was.
 unfoldable pub drawn-row : Reading → List ℕ → List ℕ → List ℕ
-unfolding size no-room marks
 drawn-row (refused k at) labels row = row
-drawn-row (network n) labels row = cond (no-room (size n) labels row) row (marks n labels ++ drop (size n) row)
+drawn-row (network n) labels row = cond (no-room n labels row) row (marks n labels ++ drop (size n) row)
 
-pub record RowsDrawn (capacity hop gates : ℕ) (rows : Rows) (labels before : List ℕ) (r : Drawing) (after : List ℕ) : Type 0 where
-  pub answer : r ≡ drawn-answer (rows-answer capacity hop gates rows) labels before
-  pub kept : after ≡ drawn-row (rows-answer capacity hop gates rows) labels before
+pub record DrawingAnswered (reading : Reading) (labels before : List ℕ) (r : Drawing) (after : List ℕ) : Type 0 where
+  pub answer : r ≡ drawn-answer reading labels before
+  pub kept : after ≡ drawn-row reading labels before
 
 -- the lines behind the labels: a 13 for each root, and 1F
 unfoldable pub later-lines : Network → List ℕ → List ℕ → List (List ℕ)
@@ -60,21 +55,18 @@ later-lines n labels rs =
 
 -- One line of the result of rows, labels and marks. The marked gates are the roots.
 unfoldable pub told-line : ℕ → Network → List ℕ → List ℕ → List ℕ
-unfolding line-at result-lines roots size
 told-line index n labels row = line-at index (result-lines n labels (roots row (size n)))
 
 unfoldable pub told-answer : ℕ → Reading → List ℕ → List ℕ → List ℕ → Written
-unfolding size no-room told-line line-answer
 told-answer index (refused k at) labels row out = written.Refused k at
 told-answer index (network n) labels row out =
-    cond (no-room (size n) labels row) (written.Refused 10 0) (line-answer (told-line index n labels row) out)
+    cond (no-room n labels row) (written.Refused 10 0) (line-answer (told-line index n labels row) out)
 
 unfoldable pub told-row : ℕ → Reading → List ℕ → List ℕ → List ℕ → List ℕ
-unfolding size no-room told-line line-row
 told-row index (refused k at) labels row out = out
 told-row index (network n) labels row out =
-    cond (no-room (size n) labels row) out (line-row (told-line index n labels row) out)
+    cond (no-room n labels row) out (line-row (told-line index n labels row) out)
 
-pub record RowsTold (index capacity hop gates : ℕ) (rows : Rows) (labels row out : List ℕ) (r : Written) (after : List ℕ) : Type 0 where
-  pub answer : r ≡ told-answer index (rows-answer capacity hop gates rows) labels row out
-  pub kept : after ≡ told-row index (rows-answer capacity hop gates rows) labels row out
+pub record LineAnswered (index : ℕ) (reading : Reading) (labels row out : List ℕ) (r : Written) (after : List ℕ) : Type 0 where
+  pub answer : r ≡ told-answer index reading labels row out
+  pub kept : after ≡ told-row index reading labels row out

@@ -1,5 +1,9 @@
 // Which clusters are drawn: those of the primary outputs, and with each cluster those of its inputs. A drawn cluster's root
 // has a mark in a row with a place for each gate, 1 for drawn and 0 for not.
+use crate::Drawing;
+use labelling::Clustered;
+use network::Read;
+use network::rows;
 use units::FanInCount;
 use units::GateNumber;
 use units::Ticks;
@@ -10,7 +14,10 @@ ghost use lib.Dec.{eqb};
 ghost use lib.ListN.{length, getD, set, replicate};
 ghost use Rattle.model.specs.Basics.{upto};
 ghost use Rattle.model.specs.Ceilings.{most-gates};
-ghost use Rattle.model.specs.Drawing.{mark, inputs, select, members as members-in};
+ghost use Rattle.model.specs.Drawing.{mark, inputs, select, marks as marks-of, members as members-in};
+ghost use Rattle.network.specs.Reading.{network};
+ghost use Rattle.network.specs.Rows.{rows-of};
+ghost use Rattle.network.specs.Spelling.{rows-answer};
 ghost use Rattle.labelling.specs.Standing.{Below};
 ghost use Rattle.drawing.specs.Selection.{
   Placed,
@@ -23,7 +30,10 @@ ghost use Rattle.drawing.specs.Selection.{
   roots,
   Found,
 };
-ghost use Rattle.drawing.specs.Drawn.{standing, Ready};
+ghost use Rattle.drawing.specs.Drawn.{standing, Ready, DrawingAnswered};
+
+// "lent row too short"
+const SHORT: u8 = 10;
 
 // A mark for each gate.
 type Marks = [u8; GateNumber::MOST_GATES];
@@ -196,7 +206,23 @@ pub(crate) fn members_of(
         (members-in (standing capacity hop gates (now (weights .entry)) (now (delays .entry)) (now (counts .entry)) (now (fanins .entry))) (now (labels .entry)) root)
         (now (members .entry)) r (now (members .exit)) ⌝ }
 {
-    0
+    let found = labelling::cluster(
+        capacity,
+        hop,
+        gates,
+        weights,
+        delays,
+        counts,
+        fanins,
+        labels,
+        root,
+        members,
+    );
+    let Clustered::Members(count) = found else {
+        // never: the rows are a network's, and the row has room
+        return 0;
+    };
+    count
 }
 
 // The inputs of a root's cluster marked.
@@ -271,5 +297,114 @@ fn sweep(
                 marks,
             );
         }
+    }
+}
+
+// The marks of the drawn clusters, in a row with a place for each gate and no more.
+fn select(
+    capacity: u32,
+    hop: u16,
+    gates: usize,
+    weights: &[u16],
+    delays: &[u16],
+    counts: &[u8],
+    fanins: &[u16],
+    labels: &[u32],
+    marks: &mut [u8],
+)
+    requires { ⌜ Ready capacity hop gates (now weights) (now delays) (now counts) (now fanins) ⌝ }
+    requires { ⌜ (gates ≤ length (now labels)) × (length (now marks) ≡ gates) ⌝ }
+    ensures { λ _. ⌜ now (marks .exit)
+        ≡ marks-of (standing capacity hop gates (now (weights .entry)) (now (delays .entry)) (now (counts .entry)) (now (fanins .entry))) (now (labels .entry)) ⌝ }
+{
+    mark_outputs(counts, fanins, marks);
+    sweep(
+        capacity,
+        hop,
+        gates,
+        weights,
+        delays,
+        counts,
+        fanins,
+        labels,
+        marks,
+    );
+}
+
+// Selection in rows that are known to hold a network.
+fn draw_in_room(
+    capacity: u32,
+    hop: u16,
+    gates: usize,
+    weights: &[u16],
+    delays: &[u16],
+    counts: &[u8],
+    fanins: &[u16],
+    labels: &[u32],
+    marks: &mut [u8],
+) -> Drawing
+    requires { ⌜ Ready capacity hop gates (now weights) (now delays) (now counts) (now fanins) ⌝ }
+    ensures { λ r. ⌜ DrawingAnswered
+        (network (standing capacity hop gates (now (weights .entry)) (now (delays .entry)) (now (counts .entry)) (now (fanins .entry))))
+        (now (labels .entry)) (now (marks .entry)) r (now (marks .exit)) ⌝ }
+{
+    if labels.len() < gates || marks.len() < gates {
+        return Drawing::Refused {
+            number: SHORT,
+            line: 0,
+        };
+    }
+    select(
+        capacity,
+        hop,
+        gates,
+        weights,
+        delays,
+        counts,
+        fanins,
+        labels,
+        &mut marks[..gates],
+    );
+    Drawing::Drawn {
+        clusters: count_marked(gates, marks),
+        delay: output_delay(gates, counts, fanins, labels),
+    }
+}
+
+// The drawn clusters of the network that stands in the rows, from its labels: a mark for each root in front of the lent
+// row. Rows that spell a refused text answer that refusal; a row of labels or marks with fewer places than gates answers 10.
+pub fn draw(
+    capacity: u32,
+    hop: u16,
+    gates: usize,
+    weights: &[u16],
+    delays: &[u16],
+    counts: &[u8],
+    fanins: &[u16],
+    labels: &[u32],
+    marks: &mut [u8],
+) -> Drawing
+    ensures { λ r. ⌜ DrawingAnswered
+        (rows-answer capacity hop gates (rows-of (now (weights .entry)) (now (delays .entry)) (now (counts .entry)) (now (fanins .entry))))
+        (now (labels .entry)) (now (marks .entry)) r (now (marks .exit)) ⌝ }
+{
+    let answer = rows::check(capacity, hop, gates, weights, delays, counts, fanins);
+    match answer {
+        Read::Refused { number, line } => Drawing::Refused { number, line },
+        Read::Network {
+            gates: _,
+            capacity: _,
+            hop: _,
+        } => draw_in_room(
+            capacity,
+            hop,
+            gates,
+            weights,
+            delays,
+            counts,
+            fanins,
+            labels,
+            marks,
+        ),
     }
 }
