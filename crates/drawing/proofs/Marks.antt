@@ -13,11 +13,12 @@ use lib.ListN.{length, getD, set, take, drop, replicate, length-set, length-appe
 use lib.Seq.{drop-cons, getD-set-same, getD-set-other, ext-getD, set-at, getD-at}
 use Rattle.model.specs.Basics.{_∈_, member, keep, gather, upto, largest}
 use Rattle.model.specs.Drawing.{mark}
-use Rattle.model.proofs.Lists.{true-or-false, not-both, same-or-not, true-member, false-member, in-keep, keep-in, in-upto, keep-append, keep-yes, keep-no}
+use Rattle.model.proofs.Lists.{true-or-false, not-both, same-or-not, true-member, false-member, in-keep, keep-in, in-upto, upto-in, keep-append, keep-yes, keep-no}
 use Rattle.network.proofs.Made.{length-made, getD-made}
 use Rattle.network.proofs.Puts.{gather-append}
 use Rattle.model.specs.Ceilings.{most-gates, most-fanins}
 use Rattle.labelling.specs.Standing.{Below, row-fanins}
+use Rattle.labelling.proofs.Lists.{getD-in}
 use Rattle.labelling.proofs.OnwardLaws.{part-is}
 use Rattle.drawing.specs.Selection.{Placed, fanins-of, unmarked, largest-label, or-label, outside, roots}
 
@@ -276,3 +277,18 @@ root-here marks v (suc k) i h m e =
 pub placed-below : (gates : ℕ) (counts fanins : List ℕ) (v : ℕ) → Placed gates counts fanins → v < gates → Below gates (part counts fanins v)
 placed-below gates counts fanins v p h =
     rw (← part-is counts fanins v) (λ x m. let b = p .below v h x m in omega arith)
+
+-- no more roots than gates, and each a gate
+pub roots-few : (marks : List ℕ) (k : ℕ) → length (roots marks k) ≤ k
+roots-few marks zero = omega (arith, ap length (roots-none marks))
+roots-few marks (suc k) =
+    ⊎-elim (λ e. omega (arith, ap length e, length-append (roots marks k) (k ∷ []), roots-few marks k))
+    (λ e. omega (arith, ap length e, roots-few marks k))
+    (roots-more marks k)
+
+pub roots-in : (marks : List ℕ) (k r : ℕ) → r ∈ roots marks k → r < k
+unfolding roots
+roots-in marks k r m = upto-in k r (keep-in (λ r. ltb 0 (getD marks r 0)) r (upto k) m .0)
+
+pub root-known : (marks : List ℕ) (k i : ℕ) → i < length (roots marks k) → getD (roots marks k) i 0 < k
+root-known marks k i h = roots-in marks k (getD (roots marks k) i 0) (getD-in (roots marks k) i h)
