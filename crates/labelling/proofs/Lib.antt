@@ -6,5 +6,5 @@ pub mod LabelLaws
 pub mod LabelsLaws
 pub mod Loaded
 pub mod MemberLaws
-pub mod AnswerLaws
+pub mod Promises
 pub mod Unique

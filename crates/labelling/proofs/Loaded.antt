@@ -1,34 +1,49 @@
 -- Laws of specs/Loaded.antt: what stands in the rows, gate by gate.
 use Prim.Native.Nat.{ℕ, zero, suc, _+_, _*_, _≤_, _<_, min}
 use mathlib.Core.Path.{_≡_, refl, sym, _∙_, ap}
-use mathlib.Core.List.{List}
+use mathlib.Core.Logic.{⊎-elim}
+use mathlib.Core.List.{List, [], _∷_, _++_, map, map-append}
 use native.Mathlib.Omega.{arith}
-use lib.ListN.{getD, take, drop}
-use Rattle.model.specs.Basics.{_∈_}
+use lib.ListN.{length, getD, take, drop, length-append, length-map, List·getD-append}
+use lib.Seq.{getD-at}
+use Rattle.model.specs.Basics.{_∈_, upto}
 use Rattle.model.specs.Ceilings.{most-fanins, most-hop}
 use Rattle.model.specs.Network.{Gate, Network, size, gate, weight, delay, fanins as fanins-of, position}
-use Rattle.network.specs.Rows.{rows-of, row-gate, rows-network}
-use Rattle.network.proofs.Checked.{rows-network-size}
-use Rattle.network.proofs.Made.{getD-made}
-use Rattle.network.proofs.RowLaws.{room}
-use Rattle.network.proofs.Spellable.{Standing}
+use Rattle.model.proofs.Lists.{same-or-not}
+use Rattle.network.specs.Rows.{Rows, row-gate, rows-network}
 use Rattle.labelling.specs.Standing.{row-fanins, Wired, Timed, Weighed}
 use Rattle.labelling.specs.Loaded.{standing, Loaded}
+
+length-upto : (k : ℕ) → length (upto k) ≡ k
+unfolding upto
+length-upto zero = refl
+length-upto (suc k) = omega (arith, length-append (upto k) (k ∷ []), length-upto k)
+
+map-upto : {A : Type 0} (f : ℕ → A) (k v : ℕ) (d : A) → v < k → getD (map f (upto k)) v d ≡ f v
+unfolding upto
+map-upto f zero v d h = absurd (omega arith)
+map-upto f (suc k) v d h =
+    let long = length-map (upto k) f ∙ length-upto k in
+    ap (λ (r : List _). getD r v d) (map-append f (upto k) (k ∷ []))
+    ∙ ⊎-elim (λ (e : v ≡ k). rw e (getD-at (map f (upto k)) (f k) [] d k long))
+    (λ (e : v ≡ k → ⊥). List·getD-append (map f (upto k)) (f k ∷ []) d v (omega arith) ∙ map-upto f k v d (omega arith))
+    (same-or-not v k)
 
 module _ (capacity hop gates : ℕ) (weights delays counts fanins : List ℕ) where
   abbrev n : Network
   n = standing capacity hop gates weights delays counts fanins
 
   pub standing-size : size n ≡ gates
-  standing-size = rows-network-size capacity hop gates (rows-of weights delays counts fanins)
+  unfolding size rows-network
+  standing-size = length-map (upto gates) _ ∙ length-upto gates
 
   pub standing-hop : n .hop ≡ hop
   unfolding rows-network
   standing-hop = refl
 
-  standing-gate : (v : ℕ) → v < gates → gate n v ≡ row-gate (rows-of weights delays counts fanins) v
+  standing-gate : (v : ℕ) → v < gates → gate n v ≡ row-gate (record { weights = weights; delays = delays; counts = counts; fanins = fanins }) v
   unfolding gate rows-network
-  standing-gate v h = getD-made (row-gate (rows-of weights delays counts fanins)) _ gates v h
+  standing-gate v h = map-upto _ gates v _ h
 
   module _ (l : Loaded capacity hop gates weights delays counts fanins) where
     fanins-is : (v : ℕ) → v < gates → fanins-of n v ≡ row-fanins counts fanins v
@@ -65,20 +80,3 @@ module _ (capacity hop gates : ℕ) (weights delays counts fanins : List ℕ) wh
 
     pub loaded-hop : hop ≤ most-hop
     loaded-hop = omega (arith, l .within .hop, standing-hop)
-
--- rows that answer a network are loaded with it
-pub loaded :
-    (capacity hop gates : ℕ) (weights delays counts fanins : List ℕ)
-    → Standing capacity hop gates (rows-of weights delays counts fanins) (standing capacity hop gates weights delays counts fanins)
-    → Loaded capacity hop gates weights delays counts fanins
-loaded capacity hop gates weights delays counts fanins s =
-    let r = room gates (rows-of weights delays counts fanins) (s .spellable .long) in
-    record {
-      weights-room = r .weights;
-      delays-room = r .delays;
-      counts-room = r .counts;
-      fanins-room = r .fanins;
-      counted = s .spellable .few;
-      formed = s .well-formed;
-      within = s .within;
-    }

@@ -2,4 +2,4 @@ pub mod Standing
 pub mod Growing
 pub mod Loaded
 pub mod Members
-pub mod Answers
+pub mod Promises

@@ -4,12 +4,12 @@ use mathlib.Core.List.{List}
 use lib.ListN.{length, getD}
 use Rattle.model.specs.Ceilings.{most-fanins}
 use Rattle.model.specs.Network.{Network, WellFormed, WithinCeilings}
-use Rattle.network.specs.Rows.{rows-of, rows-network}
+use Rattle.network.specs.Rows.{Rows, rows-network}
 
 -- the network that stands in the rows
 abbrev pub standing : ℕ → ℕ → ℕ → List ℕ → List ℕ → List ℕ → List ℕ → Network
 standing capacity hop gates weights delays counts fanins =
-    rows-network capacity hop gates (rows-of weights delays counts fanins)
+    rows-network capacity hop gates (record { weights = weights; delays = delays; counts = counts; fanins = fanins })
 
 -- The rows have room for the gates, no count is above its ceiling, and what stands in them is a network.
 pub record Loaded (capacity hop gates : ℕ) (weights delays counts fanins : List ℕ) : Type 0 where

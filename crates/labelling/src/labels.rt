@@ -1,8 +1,6 @@
 // Labels: of one gate from the labels below it, and of all gates.
-use crate::Labelled;
 use crate::Order;
 use crate::Row;
-use crate::SHORT;
 use crate::growth::Stop;
 use crate::growth::grow;
 use units::Cells;
@@ -16,8 +14,6 @@ ghost use lib.ListN.{length, take, drop};
 ghost use Rattle.model.specs.Ceilings.{most-gates, most-hop};
 ghost use Rattle.model.specs.Network.{Network};
 ghost use Rattle.model.specs.Label.{label-from, labels as labels-of};
-ghost use Rattle.network.specs.Reading.{network};
-ghost use Rattle.labelling.specs.Answers.{LabelsAnswered};
 ghost use Rattle.labelling.specs.Loaded.{standing, Loaded};
 ghost use Rattle.labelling.specs.Growing.{stop-of, or-input, input-pulls, stop-pull};
 ghost use Rattle.labelling.specs.Standing.{Whole, Below, Wired, Timed, Weighed};
@@ -100,7 +96,7 @@ fn label_one(
 }
 
 // The label of every gate, in the order of the gates.
-fn label_all(
+pub(crate) fn label_all(
     capacity: Cells,
     hop: Ticks,
     gates: usize,
@@ -135,39 +131,4 @@ fn label_all(
         );
         labels[v] = label.0 as u32;
     }
-}
-
-// The labels of the network that stands in the rows, if the lent row has a place for each.
-pub(crate) fn label_in_room(
-    capacity: Cells,
-    hop: Ticks,
-    gates: usize,
-    weights: &[u16],
-    delays: &[u16],
-    counts: &[u8],
-    fanins: &[u16],
-    labels: &mut [u32],
-) -> Labelled
-    requires { ⌜ Loaded (capacity .0) (hop .0) gates (now weights) (now delays) (now counts) (now fanins) ⌝ }
-    ensures { λ r. ⌜ LabelsAnswered
-        (network (standing (capacity .0) (hop .0) gates (now (weights .entry)) (now (delays .entry)) (now (counts .entry)) (now (fanins .entry))))
-        (now (labels .entry)) r (now (labels .exit)) ⌝ }
-{
-    if labels.len() < gates {
-        return Labelled::Refused {
-            number: SHORT,
-            line: 0,
-        };
-    }
-    label_all(
-        capacity,
-        hop,
-        gates,
-        weights,
-        delays,
-        counts,
-        fanins,
-        labels,
-    );
-    Labelled::Made
 }

@@ -1,8 +1,6 @@
 // The members of one root's cluster, from a row of labels: the same growth as for its label.
-use crate::Clustered;
 use crate::Marks;
 use crate::Order;
-use crate::SHORT;
 use crate::growth::grow;
 use units::Cells;
 use units::GateNumber;
@@ -11,11 +9,9 @@ ghost use mathlib.Core.Bool.{cond};
 ghost use Prim.Native.Nat.{suc, _+_, _≤_, _<_};
 ghost use lib.ListN.{length, set, take};
 ghost use Rattle.model.specs.Ceilings.{most-gates};
-ghost use Rattle.model.specs.Network.{Network, size};
+ghost use Rattle.model.specs.Network.{Network};
 ghost use Rattle.model.specs.Label.{cluster};
 ghost use Rattle.model.specs.Drawing.{mark, members as members-of};
-ghost use Rattle.network.specs.Reading.{network};
-ghost use Rattle.labelling.specs.Answers.{ClusterAnswered};
 ghost use Rattle.labelling.specs.Members.{marked, marked-below, written};
 ghost use Rattle.labelling.specs.Standing.{Whole, Below, Wired, Timed, Weighed};
 
@@ -96,7 +92,7 @@ fn collect(inside: &Marks, k: usize, members: &mut [u16]) -> usize
 }
 
 // The members of the cluster of r, rising. How many.
-fn cluster_of(
+pub(crate) fn cluster_of(
     capacity: Cells,
     weights: &[u16],
     delays: &[u16],
@@ -126,44 +122,4 @@ fn cluster_of(
         &mut inside,
     );
     collect(&inside, r + 1, members)
-}
-
-// The members of the cluster of the root, if both rows have a place for each gate.
-pub(crate) fn cluster_in_room(
-    capacity: Cells,
-    gates: usize,
-    weights: &[u16],
-    delays: &[u16],
-    counts: &[u8],
-    fanins: &[u16],
-    labels: &[u32],
-    root: usize,
-    members: &mut [u16],
-) -> Clustered
-    requires { ⌜ Wired gates (now delays) (now counts) (now fanins) × (gates ≤ length (now weights)) ⌝ }
-    ensures { λ r. ⌜ ((n : Network) → size n ≡ gates
-        → Timed n gates (now (delays .entry)) (now (counts .entry)) (now (fanins .entry))
-        → Weighed n gates (capacity .0) (now (weights .entry))
-        → ClusterAnswered (network n) (now (labels .entry)) root (now (members .entry)) r (now (members .exit))) ⌝ }
-{
-    if labels.len() < gates || members.len() < gates {
-        return Clustered::Refused {
-            number: SHORT,
-            line: 0,
-        };
-    }
-    if gates <= root {
-        return Clustered::Members(0);
-    }
-    let count = cluster_of(
-        capacity,
-        weights,
-        delays,
-        counts,
-        fanins,
-        labels,
-        root,
-        members,
-    );
-    Clustered::Members(count)
 }

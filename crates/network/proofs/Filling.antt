@@ -28,7 +28,6 @@ use Rattle.network.specs.Reading.{Reading, refused, network, nothing-rea
 use Rattle.network.specs.Rows.{Rows, put, fill, filled}
 use Rattle.network.specs.Passes.{header-only, fan-ins-from, Fits-into}
 use Rattle.network.specs.Rows.{rows-of}
-use Rattle.network.proofs.Faultless.{Fit}
 use Rattle.network.proofs.Accepted.{walk-gates}
 use Rattle.network.proofs.AcceptedNetwork.{rising-below}
 use Rattle.network.proofs.RowLaws.{Room, room, put-room}

@@ -22,7 +22,6 @@ pub mod Exactly
 pub mod Table
 pub mod Room
 pub mod GateLines
-pub mod Variants
 pub mod LinesRead
 pub mod Looking
 pub mod Filling

@@ -1,9 +1,9 @@
 -- What a line's answer says of the walk over the lines that are left: a frame goes on behind its line, and anything else
 -- is told.
-use Prim.Native.Nat.{ℕ, suc, _+_, _≤_, _<_}
+use Prim.Native.Nat.{ℕ, _+_, _≤_, _<_}
 use mathlib.Core.Path.{_≡_, refl, sym, ap, _∙_}
 use mathlib.Core.Logic.{_⊎_, inl, inr, ⊎-elim}
-use mathlib.Core.Bool.{Bool, true, false, cond, not, _||_}
+use mathlib.Core.Bool.{true, false}
 use mathlib.Core.List.{List, [], _∷_, _++_}
 use mathlib.Core.Option.{Option, none, some}
 use native.Mathlib.Omega.{arith}
@@ -310,3 +310,12 @@ weigh-refusal (read.Gate w d k next) line = refl
 weigh-refusal (read.End next) line = refl
 weigh-refusal (read.Refused k at) line = refl
 weigh-refusal read.Nothing line = refl
+
+-- any variant but `Refused`
+pub not-refused : (r : LineRead) (missing : ℕ) → OneOf (0 ∷ 1 ∷ 2 ∷ 4 ∷ []) (tagOf the-type r) → refusal-of r missing ≡ refused 3 missing
+unfolding refusal-of
+not-refused (read.Header m d next) missing h = refl
+not-refused (read.Gate w d k next) missing h = refl
+not-refused (read.End next) missing h = refl
+not-refused (read.Refused k at) missing h = absurd (miss (0 ∷ 1 ∷ 2 ∷ 4 ∷ []) 3 tt h)
+not-refused read.Nothing missing h = refl

@@ -1,4 +1,4 @@
--- What the parts of the two passes over a text answer.
+-- What the private functions of the two passes over a text answer. The promise of reading, ReadInto, uses none of it.
 use Prim.Native.Nat.{ℕ, zero, suc, _+_, _≤_}
 use mathlib.Core.Path.{_≡_}
 use mathlib.Core.Bool.{false, cond, not, _&&_}

@@ -1,20 +1,19 @@
 // A network's text read into lent rows. `look` goes over the text once and writes nothing; where it finds a network for
 // which the rows have room, `fill_rows` goes over the gate lines once more and puts each gate into its places.
 ghost use mathlib.Core.Path.{_≡_};
-ghost use mathlib.Core.List.{[]};
 ghost use Prim.Native.Nat.{ℕ, _+_, _≤_, _<_};
 ghost use lib.ListN.{length, drop};
+ghost use lib.Seq.{sets};
 ghost use Rattle.model.specs.Ceilings.{most-gates, most-capacity, most-hop};
 ghost use Rattle.model.specs.Network.{Network};
-ghost use lib.Seq.{sets};
 ghost use Rattle.frames.specs.Text.{lines};
 ghost use Rattle.frames.specs.Frames.{fan-in-from};
 ghost use Rattle.frames.specs.declared.Place.the-variants.{AfterGates, Closed};
 ghost use Rattle.network.specs.Reading.{reading, walk, weigh};
+ghost use Rattle.network.specs.Rows.{rows-of, too-short, filled};
 ghost use Rattle.network.specs.Shown.{shown};
 ghost use Rattle.network.specs.Passes.{refusal-of, heavy-with, Known, header-only, one-more, fan-ins-from, Fits-into};
 ghost use Rattle.network.specs.ReadInto.{ReadInto};
-ghost use Rattle.network.specs.Rows.{rows-of, too-short, filled};
 use crate::Read;
 use frames::LineRead;
 use frames::Place;

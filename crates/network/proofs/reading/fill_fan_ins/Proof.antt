@@ -1,3 +1,5 @@
+-- `network::reading::fill_fan_ins` meets its contract. The loop's invariant: the stores that are left, done from here, give
+-- what all of them give from the start. The measure is how many are left.
 use Prim.Native.Nat.{_+_, _-_, _≤_}
 use mathlib.Core.Path.{_≡_, refl, sym, _∙_}
 use native.Mathlib.Omega.{arith}
@@ -8,9 +10,6 @@ use Rattle.network.specs.Passes.{fan-ins-from}
 use Rattle.network.proofs.Filling.{fan-ins-first, fan-ins-more, fan-ins-last}
 use Rattle.network.proofs.reading.fill_fan_ins.Statement.{statement}
 use Rattle.network.proofs.reading.fill_fan_ins.Tie as tie
-use Rattle.network.proofs.reading.fill_fan_ins.Reads as reads
-use Rattle.network.proofs.reading.fill_fan_ins.Lts as lts
-use Rattle.frames.proofs.fan_in.Reads as fan-in-reads
 
 abbrev Inv-loop : tie.InvT-loop
 Inv-loop text at count fanins₀ from i₀ fanins i =
@@ -21,45 +20,36 @@ Inv-loop text at count fanins₀ from i₀ fanins i =
 abbrev μ-loop : tie.MeasureT-loop
 μ-loop text at count fanins₀ from i₀ fanins i = count - i
 
--- src/reading.rt:165:5
 loop-holds : tie.Need-loop-holds Inv-loop μ-loop
 loop-holds c =
     let a = c .before .before .args in
     (search needs, refl, fan-ins-first (a .text .now) (a .at) (a .count) (a .from) (a .fanins .now))
 
--- src/reading.rt:166:28
 fan-in-requires : tie.Need-fan-in-requires Inv-loop μ-loop
 fan-in-requires c κs = search needs
 
--- src/reading.rt:166:28
 cast-fanins : tie.Need-cast-fanins Inv-loop μ-loop
 cast-fanins c =
     let s = c .before .before .before .before .before in
     omega (arith, s .pre .1 (c .before .before .loop .i) (search needs), c .fan-in .ensures)
 
--- src/reading.rt:166:16
 add-fanins : tie.Need-add-fanins Inv-loop μ-loop
 add-fanins c = search needs
 
--- src/reading.rt:166:9
 mul-fanins : tie.Need-mul-fanins Inv-loop μ-loop
 mul-fanins c =
     let s = c .before .before .before .before .before in
     omega (arith, s .pre .0, s .good .1 .1 .1 .0 .1)
 
--- src/reading.rt:166:9
 slice-write-fanins : tie.Need-slice-write-fanins Inv-loop μ-loop
 slice-write-fanins c = omega (arith, c .before .before .before .before .before .pre .0)
 
--- src/reading.rt:167:9
 add-i : tie.Need-add-i Inv-loop μ-loop
 add-i c = search needs
 
--- src/reading.rt:165:5
 loop-less : tie.Need-loop-less Inv-loop μ-loop
 loop-less c = search needs
 
--- src/reading.rt:165:5
 loop-again : tie.Need-loop-again Inv-loop μ-loop
 loop-again c =
     let a = c .before .before .before .before .before .args in
@@ -69,11 +59,9 @@ loop-again c =
       rw (c .fan-in .ensures) (fan-ins-more (a .text .now) (a .at) (a .count) (a .from) (l .fanins) (l .i) (search needs) ∙ l .inv .2),
     )
 
--- src/reading.rt:160:1
 same-length : tie.Need-same-length Inv-loop μ-loop
 same-length c = c .before .loop .inv .1
 
--- src/reading.rt:160:1
 returns : tie.Need-returns Inv-loop μ-loop
 returns c =
     let a = c .before .before .before .before .args in

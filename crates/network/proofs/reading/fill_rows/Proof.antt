@@ -1,8 +1,10 @@
-use Prim.Native.Nat.{ℕ, _+_, _-_}
-use mathlib.Core.Path.{_≡_, refl, sym, ap, _∙_}
+-- `network::reading::fill_rows` meets its contract. The loop's invariant, `Filling`: the gates that are left, put into their
+-- places from here, give what all of them give from the start. The measure is what is left of the text.
+use Prim.Native.Nat.{ℕ, _-_}
+use mathlib.Core.Path.{_≡_}
 use mathlib.Core.List.{List}
 use native.Mathlib.Omega.{arith}
-use lib.ListN.{length, length-set}
+use lib.ListN.{length}
 use borrow.Author.Needs.{needs}
 use Rattle.network.specs.Reading.{reading}
 use Rattle.network.specs.Rows.{Rows, filled}
@@ -11,13 +13,6 @@ use Rattle.network.proofs.LinesRead.{GateRead, header-read, gate-read}
 use Rattle.network.proofs.Filling.{Filling, HasPlaces, start, places, stored, word-sized, opens, done, filled-lengths}
 use Rattle.network.proofs.reading.fill_rows.Statement.{statement}
 use Rattle.network.proofs.reading.fill_rows.Tie as tie
-use Rattle.network.proofs.reading.fill_rows.Reads as reads
-use Rattle.network.proofs.reading.fill_rows.Lts as lts
-use Rattle.frames.proofs.read_line.Reads as read-line-reads
-use Rattle.network.proofs.reading.fill_fan_ins.Reads as fill-fan-ins-reads
-use Rattle.units.proofs.Cells.weight_place.Reads as weight-place-reads
-use Rattle.units.proofs.FanInCount.count_place.Reads as count-place-reads
-use Rattle.units.proofs.Ticks.delay_place.Reads as delay-place-reads
 
 abbrev Inv-loop : tie.InvT-loop
 Inv-loop text weights₀ delays₀ counts₀ fanins₀ first at₀ gates₀ weights delays counts fanins at gates =
@@ -62,113 +57,88 @@ at-the-end c =
     let r = c .before .read-line2 in
     done (text-of (c .before .before)) _ (rows-at (c .before .before)) (l .at) (l .gates) (l .inv) (r .result) (r .ensures) (c .match2 .keys2)
 
--- src/reading.rt:176:9
 read-line-requires : tie.Need-read-line-requires Inv-loop μ-loop
 read-line-requires c κs = search needs
 
--- src/reading.rt:177:55
 enum-known-header : tie.Need-enum-known-header Inv-loop μ-loop
 enum-known-header c = search needs
 
--- src/reading.rt:179:9
 returns : tie.Need-returns Inv-loop μ-loop
 returns c =
     let s = c .before .before .before .before .before .before .before in
     let r = c .before .read-line in
     absurd (opens (s .args .text .now) _ (s .pre) (r .result) (r .ensures) (c .match .keys2))
 
--- src/reading.rt:183:5
 loop-holds : tie.Need-loop-holds Inv-loop μ-loop
 loop-holds c =
     let s = c .before .before .before .before .before .before .before .before .before in
     let r = c .before .before .before .read-line in
     start (s .args .text .now) _ _ _ _ (s .pre) (header-read (s .args .text .now) (r .result) (r .ensures) _ _ _ (c .before .header .given .1))
 
--- src/reading.rt:184:74
 add-read-line : tie.Need-add-read-line Inv-loop μ-loop
 add-read-line c = omega (arith, c .loop .inv .few)
 
--- src/reading.rt:184:13
 read-line-requires-2 : tie.Need-read-line-requires-2 Inv-loop μ-loop
 read-line-requires-2 c κs = search needs
 
--- src/reading.rt:185:30
 enum-known-read : tie.Need-enum-known-read Inv-loop μ-loop
 enum-known-read c = search needs
 
--- src/reading.rt:186:13
 same-length : tie.Need-same-length Inv-loop μ-loop
 same-length c = filled-lengths _ _ _ (at-the-end c) .weights
 
--- src/reading.rt:186:13
 same-length-2 : tie.Need-same-length-2 Inv-loop μ-loop
 same-length-2 c = filled-lengths _ _ _ (at-the-end c) .delays
 
--- src/reading.rt:186:13
 same-length-3 : tie.Need-same-length-3 Inv-loop μ-loop
 same-length-3 c = filled-lengths _ _ _ (at-the-end c) .counts
 
--- src/reading.rt:186:13
 same-length-4 : tie.Need-same-length-4 Inv-loop μ-loop
 same-length-4 c = filled-lengths _ _ _ (at-the-end c) .fanins
 
--- src/reading.rt:186:13
 returns-2 : tie.Need-returns-2 Inv-loop μ-loop
 returns-2 c = at-the-end c
 
--- src/reading.rt:188:26
 weight-place-requires : tie.Need-weight-place-requires Inv-loop μ-loop
 weight-place-requires c κs = search needs
 
--- src/reading.rt:188:9
 mul-weights : tie.Need-mul-weights Inv-loop μ-loop
 mul-weights c = omega (arith, the-places (c .before) .number)
 
--- src/reading.rt:188:9
 slice-write-weights : tie.Need-slice-write-weights Inv-loop μ-loop
 slice-write-weights c = the-places (c .before) .weights
 
--- src/reading.rt:189:25
 delay-place-requires : tie.Need-delay-place-requires Inv-loop μ-loop
 delay-place-requires c κs = search needs
 
--- src/reading.rt:189:9
 mul-delays : tie.Need-mul-delays Inv-loop μ-loop
 mul-delays c = omega (arith, the-places (c .before .before) .number)
 
--- src/reading.rt:189:9
 slice-write-delays : tie.Need-slice-write-delays Inv-loop μ-loop
 slice-write-delays c = the-places (c .before .before) .delays
 
--- src/reading.rt:190:25
 count-place-requires : tie.Need-count-place-requires Inv-loop μ-loop
 count-place-requires c κs = search needs
 
--- src/reading.rt:190:9
 slice-write-counts : tie.Need-slice-write-counts Inv-loop μ-loop
 slice-write-counts c = the-places (c .before .before .before) .counts
 
--- src/reading.rt:191:49
 mul-fill-fan-ins : tie.Need-mul-fill-fan-ins Inv-loop μ-loop
 mul-fill-fan-ins c = omega (arith, the-places (c .before .before .before .before) .number)
 
--- src/reading.rt:191:9
 fill-fan-ins-requires : tie.Need-fill-fan-ins-requires Inv-loop μ-loop
 fill-fan-ins-requires c κs =
     let t = c .before .before .before .before in
     (the-places t .fanins, word-sized _ _ _ _ _ _ _ (the-gate t))
 
--- src/reading.rt:193:9
 add-gates : tie.Need-add-gates Inv-loop μ-loop
 add-gates c = omega (arith, the-places (c .before .before .before .before .before .before .before) .number)
 
--- src/reading.rt:183:5
 loop-less : tie.Need-loop-less Inv-loop μ-loop
 loop-less c =
     let g = the-gate (c .before .before .before .before .before .before .before) in
     omega (arith, g .inside, g .ahead)
 
--- src/reading.rt:183:5
 loop-again : tie.Need-loop-again Inv-loop μ-loop
 loop-again c =
     let t = c .before .before .before .before .before .before .before in

@@ -1,28 +1,22 @@
+-- `network::reading::heavy_line` meets its contract: each return is a case of `heavy-with`.
 use mathlib.Core.Path.{sym, _∙_}
 use borrow.Author.Needs.{needs}
 use borrow.Author.Tests.{ne-eqb}
 use Rattle.network.specs.Passes.{heavy-with}
 use Rattle.network.proofs.reading.heavy_line.Statement.{statement}
 use Rattle.network.proofs.reading.heavy_line.Tie as tie
-use Rattle.network.proofs.reading.heavy_line.Reads as reads
-use Rattle.network.proofs.reading.heavy_line.Lts as lts
-use Rattle.units.proofs.Cells.within.Reads as within-reads
 
--- src/reading.rt:36:9
 returns : tie.Need-returns
 unfolding heavy-with
 returns c = rw (ne-eqb (c .before .args .heavy) 0 (c .if1 .taken))
 
--- src/reading.rt:38:8
 within-requires : tie.Need-within-requires
 within-requires c κs = search needs
 
--- src/reading.rt:39:9
 returns-2 : tie.Need-returns-2
 unfolding heavy-with
 returns-2 c = rw (c .before .before .if1 .left, sym (c .before .within .ensures) ∙ c .if2 .taken)
 
--- src/reading.rt:32:1
 returns-3 : tie.Need-returns-3
 unfolding heavy-with
 returns-3 c = rw (c .before .before .if1 .left, sym (c .before .within .ensures) ∙ c .if2 .left)

@@ -1,3 +1,4 @@
+-- `network::reading::look_end` meets its contract: behind the end frame the walk ends with the network or tells a line.
 use Prim.Native.Nat.{_+_}
 use mathlib.Core.Path.{_≡_, sym, ap, _∙_}
 use borrow.Author.Needs.{needs}
@@ -11,12 +12,6 @@ use Rattle.network.proofs.LinesRead.{no-end, whole}
 use Rattle.network.proofs.Looking.{refusal-told, told-none, told-some}
 use Rattle.network.proofs.reading.look_end.Statement.{statement}
 use Rattle.network.proofs.reading.look_end.Tie as tie
-use Rattle.network.proofs.reading.look_end.Reads as reads
-use Rattle.network.proofs.reading.look_end.Lts as lts
-use Rattle.frames.proofs.read_line.Reads as read-line-reads
-use Rattle.network.proofs.reading.refusal.Reads as refusal-reads
-use Rattle.units.proofs.Cells.capacity_place.Reads as capacity-place-reads
-use Rattle.units.proofs.Ticks.delay_place.Reads as delay-place-reads
 
 -- Nothing stands behind the end frame, so the walk ends with the network.
 ended : (c : tie.After-enum-told) (n : Network)
@@ -27,22 +22,18 @@ ended c n =
     let r = c .before .before .read-line in
     ap (λ w. shown (weigh w)) (sym (whole (a .text .now) (a .at) (a .seen .gates + 3) n (r .result) (r .ensures) (c .enum-told .given .1)))
 
--- src/reading.rt:62:19
 add-missing : tie.Need-add-missing
 add-missing c = search needs
 
--- src/reading.rt:63:9
 read-line-requires : tie.Need-read-line-requires
 read-line-requires c κs = search needs
 
 enum-told : tie.Need-enum-told
 enum-told c = search needs
 
--- src/reading.rt:65:9
 refusal-requires : tie.Need-refusal-requires
 refusal-requires c κs = search needs
 
--- src/reading.rt:65:9
 returns : tie.Need-returns
 returns c = λ n k.
     let a = c .before .before .before .before .before .args in
@@ -51,20 +42,16 @@ returns c = λ n k.
     ∙ refusal-told (r .result) _ _
     (no-end (a .text .now) (a .at) (a .seen .gates + 3) n (r .result) (r .ensures) (c .before .match .keys2))
 
--- src/reading.rt:69:9
 returns-2 : tie.Need-returns-2
 returns-2 c = λ n k.
     told-some (c .before .before .before .before .before .before .args .seen) n k (c .if1 .taken) ∙ ended (c .before) n
 
--- src/reading.rt:73:50
 capacity-place-requires : tie.Need-capacity-place-requires
 capacity-place-requires c κs = search needs
 
--- src/reading.rt:73:82
 delay-place-requires : tie.Need-delay-place-requires
 delay-place-requires c κs = search needs
 
--- src/reading.rt:58:1
 returns-3 : tie.Need-returns-3
 returns-3 c = λ n k.
     let e = c .before .before .before .before in

@@ -1,24 +1,20 @@
+-- `network::reading::refusal` meets its contract: a refusal is passed on, and anything else is a frame that is missing.
 use borrow.Author.Needs.{needs}
 use Rattle.network.proofs.reading.refusal.Statement.{statement}
 use Rattle.network.proofs.reading.refusal.Tie as tie
-use Rattle.network.proofs.reading.refusal.Reads as reads
-use Rattle.network.proofs.reading.refusal.Lts as lts
 use Rattle.network.specs.Shown.{shown}
 use Rattle.network.specs.Passes.{refusal-of}
-use Rattle.network.proofs.Variants.{not-refused}
+use Rattle.network.proofs.LinesRead.{not-refused}
 
--- src/reading.rt:20:29
 enum-known-read : tie.Need-enum-known-read
 enum-known-read c = search needs
 
--- src/reading.rt:21:9
 returns : tie.Need-returns
 unfolding shown refusal-of
 returns c =
     let a = c .before .args in
     rw (not-refused (a .read) (a .missing) (c .match .keys2))
 
--- src/reading.rt:17:1
 returns-2 : tie.Need-returns-2
 unfolding shown refusal-of
 returns-2 c = rw (c .before .read .given .1)

@@ -1,28 +1,23 @@
+-- `network::reading::too_short` meets its contract: a test a row.
 use borrow.Author.Tests.{lt-ltb, le-ltb}
 use lib.ListN.{length}
 use Rattle.network.specs.Rows.{too-short}
 use Rattle.network.proofs.Filling.{eighths}
 use Rattle.network.proofs.reading.too_short.Statement.{statement}
 use Rattle.network.proofs.reading.too_short.Tie as tie
-use Rattle.network.proofs.reading.too_short.Reads as reads
-use Rattle.network.proofs.reading.too_short.Lts as lts
 
--- src/reading.rt:202:9
 returns : tie.Need-returns
 unfolding too-short
 returns c = rw (lt-ltb _ _ (c .if1 .taken))
 
--- src/reading.rt:205:9
 returns-2 : tie.Need-returns-2
 unfolding too-short
 returns-2 c = rw (le-ltb _ _ (c .before .if1 .left), lt-ltb _ _ (c .if2 .taken))
 
--- src/reading.rt:208:9
 returns-3 : tie.Need-returns-3
 unfolding too-short
 returns-3 c = rw (le-ltb _ _ (c .before .before .if1 .left), le-ltb _ _ (c .before .if2 .left), lt-ltb _ _ (c .if3 .taken))
 
--- src/reading.rt:198:1
 returns-4 : tie.Need-returns-4
 unfolding too-short
 returns-4 c =
