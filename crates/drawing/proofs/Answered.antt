@@ -11,15 +11,17 @@ use lib.ListN.{length, drop}
 use Rattle.model.specs.Network.{Network, size}
 use Rattle.model.specs.Drawing.{marks, drawn, members}
 use Rattle.network.specs.Reading.{Reading, refused, network}
-use Rattle.network.specs.Rows.{rows-of}
-use Rattle.network.specs.Writing.{LineWritten, line-at}
+use Rattle.network.specs.Rows.{Rows, rows-of, rows-network}
+use Rattle.network.specs.Spelling.{rows-answer}
+use Rattle.network.specs.Writing.{row-unless, LineWritten, line-at}
 use Rattle.network.specs.declared.writing.Written.{Written}
 use Rattle.network.specs.declared.writing.Written.the-variants as written
 use Rattle.network.proofs.Spellable.{Standing}
-use Rattle.labelling.specs.Answers.{no-room, cluster-answer, cluster-row, ClusterAnswered}
+use Rattle.labelling.specs.Promises.{in-lent, clustered, either-short, cluster-answer, ClusteredInto}
 use Rattle.labelling.specs.declared.Clustered.{Clustered}
-use Rattle.labelling.specs.declared.Clustered.the-variants as clustered
-use Rattle.labelling.proofs.Loaded.{loaded, loaded-wired, loaded-timed}
+use Rattle.labelling.specs.declared.Clustered.the-variants.{Members}
+use Rattle.labelling.proofs.Loaded.{loaded-wired, loaded-timed}
+use Rattle.labelling.proofs.Promises.{standing-loaded}
 use Rattle.drawing.specs.declared.Drawing.{Drawing}
 use Rattle.drawing.specs.declared.Drawing.the-variants as drawing
 use Rattle.drawing.specs.Result.{result-lines, delay-from}
@@ -31,7 +33,7 @@ pub ready : (capacity hop gates : ℕ) (weights delays counts fanins : List ℕ)
     → Standing capacity hop gates (rows-of weights delays counts fanins) (standing capacity hop gates weights delays counts fanins)
     → Ready capacity hop gates weights delays counts fanins
 ready capacity hop gates weights delays counts fanins s =
-    let l = loaded capacity hop gates weights delays counts fanins s in
+    let l = standing-loaded capacity hop gates weights delays counts fanins s in
     let w = loaded-wired capacity hop gates weights delays counts fanins l in
     record {
       answered = s .answered;
@@ -41,6 +43,22 @@ ready capacity hop gates weights delays counts fanins s =
       placed = record { few = w .few; counts-room = w .counts-room; fanins-room = w .fanins-room; counted = w .counted; below = w .below };
     }
 
+-- The members of a cluster, found in front of a row.
+module _ (capacity hop gates : ℕ) (rows : Rows) (labels : List ℕ) (root : ℕ) (row : List ℕ) where
+  abbrev inside : List ℕ
+  inside = members (rows-network capacity hop gates rows) labels root
+
+  pub cluster-found : {n : Network} {r : Clustered} {after : List ℕ} → rows-answer capacity hop gates rows ≡ network n
+      → gates ≤ length labels
+      → gates ≤ length row
+      → ClusteredInto capacity hop gates rows labels root row r after
+      → (r ≡ Members (length inside)) × (after ≡ inside ++ drop (length inside) row)
+  unfolding cluster-answer in-lent clustered row-unless
+  cluster-found e h l c =
+      let t = le-ltb (length labels) gates h in
+      let u = le-ltb (length row) gates l in
+      (rw (e, t, u) at (c .answer), rw (e, t, u) at (c .kept))
+
 -- room for the gates, or too little
 
 or-true : (b : Bool) → (b || true) ≡ true
@@ -48,23 +66,14 @@ or-true true = refl
 or-true false = refl
 
 module _ (n : Network) (gates : ℕ) (labels row : List ℕ) (s : size n ≡ gates) where
-  short : (length labels < gates) ⊎ (length row < gates) → no-room n labels row ≡ true
-  unfolding no-room
+  short : (length labels < gates) ⊎ (length row < gates) → either-short (size n) labels row ≡ true
   short h =
       ⊎-elim (λ (l : length labels < gates). rw (lt-ltb (length labels) (size n) (omega arith)))
       (λ (l : length row < gates). rw (lt-ltb (length row) (size n) (omega arith)) (or-true (ltb (length labels) (size n))))
       h
 
-  room : gates ≤ length labels → gates ≤ length row → no-room n labels row ≡ false
-  unfolding no-room
+  room : gates ≤ length labels → gates ≤ length row → either-short (size n) labels row ≡ false
   room h l = rw (le-ltb (length labels) (size n) (omega arith), le-ltb (length row) (size n) (omega arith))
-
-  -- the members of a cluster, found in front of a row
-  pub cluster-found : {reading : Reading} {root : ℕ} {r : Clustered} {after : List ℕ} → reading ≡ network n → gates ≤ length labels → gates ≤ length row
-      → ClusterAnswered reading labels root row r after
-      → (r ≡ clustered.Members (length (members n labels root))) × (after ≡ members n labels root ++ drop (length (members n labels root)) row)
-  unfolding cluster-answer cluster-row
-  cluster-found e h l c = (rw (e, room h l) at (c .answer), rw (e, room h l) at (c .kept))
 
   -- selecting
 

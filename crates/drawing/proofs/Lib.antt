@@ -7,3 +7,4 @@ pub mod Selected
 pub mod LineAt
 pub mod SameLabels
 pub mod Answered
+pub mod Preparing

@@ -16,7 +16,7 @@ use Rattle.drawing.specs.declared.Drawing.{Drawing}
 use Rattle.drawing.specs.declared.Drawing.the-variants as drawing
 use Rattle.drawing.specs.Result.{result-lines, delay-from, cluster-bytes, result-end-bytes}
 use Rattle.labelling.specs.Standing.{Timed}
-use Rattle.labelling.specs.Answers.{no-room}
+use Rattle.labelling.specs.Promises.{either-short}
 use Rattle.drawing.specs.Selection.{Placed, roots}
 
 -- the network that stands in the rows
@@ -37,12 +37,12 @@ pub record Ready (capacity hop gates : ℕ) (weights delays counts fanins : List
 unfoldable pub drawn-answer : Reading → List ℕ → List ℕ → Drawing
 drawn-answer (refused k at) labels row = drawing.Refused k at
 drawn-answer (network n) labels row =
-    cond (no-room n labels row) (drawing.Refused 10 0) (drawing.Drawn (length (drawn n labels)) (delay-from n labels))
+    cond (either-short (size n) labels row) (drawing.Refused 10 0) (drawing.Drawn (length (drawn n labels)) (delay-from n labels))
 
 -- The row afterwards: the marks in front, the rest as it was; on a refusal all of it as it was.
 unfoldable pub drawn-row : Reading → List ℕ → List ℕ → List ℕ
 drawn-row (refused k at) labels row = row
-drawn-row (network n) labels row = cond (no-room n labels row) row (marks n labels ++ drop (size n) row)
+drawn-row (network n) labels row = cond (either-short (size n) labels row) row (marks n labels ++ drop (size n) row)
 
 pub record DrawingAnswered (reading : Reading) (labels before : List ℕ) (r : Drawing) (after : List ℕ) : Type 0 where
   pub answer : r ≡ drawn-answer reading labels before
@@ -60,12 +60,12 @@ told-line index n labels row = line-at index (result-lines n labels (roots row (
 unfoldable pub told-answer : ℕ → Reading → List ℕ → List ℕ → List ℕ → Written
 told-answer index (refused k at) labels row out = written.Refused k at
 told-answer index (network n) labels row out =
-    cond (no-room n labels row) (written.Refused 10 0) (line-answer (told-line index n labels row) out)
+    cond (either-short (size n) labels row) (written.Refused 10 0) (line-answer (told-line index n labels row) out)
 
 unfoldable pub told-row : ℕ → Reading → List ℕ → List ℕ → List ℕ → List ℕ
 told-row index (refused k at) labels row out = out
 told-row index (network n) labels row out =
-    cond (no-room n labels row) out (line-row (told-line index n labels row) out)
+    cond (either-short (size n) labels row) out (line-row (told-line index n labels row) out)
 
 pub record LineAnswered (index : ℕ) (reading : Reading) (labels row out : List ℕ) (r : Written) (after : List ℕ) : Type 0 where
   pub answer : r ≡ told-answer index reading labels row out

@@ -3,3 +3,4 @@ pub mod Result
 pub mod Demands
 pub mod Selection
 pub mod Drawn
+pub mod Prepared

@@ -8,6 +8,7 @@ use lib.ListN.{length, drop}
 use Rattle.model.specs.Network.{Network}
 use Rattle.model.specs.Drawing.{members}
 use Rattle.labelling.specs.declared.Clustered.the-variants.{Members}
+use Rattle.network.specs.Rows.{rows-of}
 use Rattle.drawing.specs.Drawn.{standing}
 use Rattle.drawing.proofs.Answered.{cluster-found}
 use Rattle.drawing.proofs.selection.members_of.Statement.{statement}
@@ -38,7 +39,11 @@ found : (c : tie.After-cluster)
     (c .cluster .result ≡ Members (length inside)) × (c .cluster .last .1 .1 .1 .1 .1 .1 .1 .1 .1 .0 ≡ inside ++ drop (length inside) (s .args .members .now))
 found c =
     let s = entered c in
-    cluster-found (network s) (s .args .gates) (s .args .labels .now) (s .args .members .now) (s .pre .0 .size-is) (s .pre .0 .answered) (omega arith) (omega arith)
+    let a = s .args in
+    cluster-found (a .capacity) (a .hop) (a .gates) (rows-of (a .weights .now) (a .delays .now) (a .counts .now) (a .fanins .now)) (a .labels .now) (a .root) (a .members .now)
+    (s .pre .0 .answered)
+    (omega arith)
+    (omega arith)
     (c .cluster .ensures)
 
 returns : tie.Need-returns
