@@ -1,8 +1,9 @@
 -- No second outcome meets a contract of `network`. Each statement is about the contract itself: `Learnt` is what the
 -- function's `ensures` says of the arguments, the result and the parameters at exit.
-use mathlib.Core.Path.{_≡_, sym, _∙_}
+use mathlib.Core.Path.{_≡_, refl, sym, _∙_}
 use denote.Ref.{now}
 use Rattle.network.specs.Rows.{rows-of}
+use Rattle.network.proofs.reading.look.Reads as look
 use Rattle.network.proofs.reading.read.Reads as read
 use Rattle.network.proofs.writing.put_byte.Reads as put-byte
 use Rattle.network.proofs.writing.put_word.Reads as put-word
@@ -42,3 +43,7 @@ pub read-unique :
     OneOutcome read.Learnt
     (λ κs exit. rows-of (now (exit .1 .0)) (now (exit .1 .1 .0)) (now (exit .1 .1 .1 .0)) (now (exit .1 .1 .1 .1 .0)))
 read-unique κs args r s exit exit′ p q = (same (p .result) (q .result), same (p .rows) (q .rows))
+
+-- The text is lent to be read, so the result is the whole outcome.
+pub look-unique : OneOutcome look.Learnt (λ κs exit. tt {0})
+look-unique κs args r s exit exit′ p q = (same p q, refl)

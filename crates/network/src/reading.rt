@@ -136,7 +136,7 @@ fn look_gates(text: &[u8], first: usize, capacity: Cells, hop: Ticks) -> Read
 }
 
 // What the text answers, the rows left out.
-fn look(text: &[u8]) -> Read
+pub fn look(text: &[u8]) -> Read
     ensures { λ r. ⌜ r ≡ shown (reading (now (text .entry))) ⌝ }
 {
     if MOST_TEXT < text.len() {
