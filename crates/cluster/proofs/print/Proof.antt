@@ -1,0 +1,38 @@
+-- `cluster::print` ends: the index goes up to the most lines that a result has.
+use Prim.Native.Nat.{_≤_, _-_}
+use native.Mathlib.Omega.{arith}
+use borrow.Author.Needs.{needs}
+use Rattle.cluster.proofs.print.Statement.{statement}
+use Rattle.cluster.proofs.print.Tie as tie
+
+abbrev Inv-loop : tie.InvT-loop
+Inv-loop prepared weights delays counts fanins labels marks index₀ index = index ≤ 1_026
+
+abbrev μ-loop : tie.MeasureT-loop
+μ-loop prepared weights delays counts fanins labels marks index₀ index = 1_026 - index
+
+loop-holds : tie.Need-loop-holds Inv-loop μ-loop
+loop-holds c = omega arith
+
+print-line-requires : tie.Need-print-line-requires Inv-loop μ-loop
+print-line-requires c κs = search needs
+
+returns : tie.Need-returns Inv-loop μ-loop
+returns c = search needs
+
+add-index : tie.Need-add-index Inv-loop μ-loop
+add-index c = omega arith
+
+loop-less : tie.Need-loop-less Inv-loop μ-loop
+loop-less c = omega arith
+
+loop-again : tie.Need-loop-again Inv-loop μ-loop
+loop-again c = omega arith
+
+returns-2 : tie.Need-returns-2 Inv-loop μ-loop
+returns-2 c = search needs
+
+pub print-spec : {M : Type 1} → statement M
+print-spec =
+    tie.close
+    (tie.spec Inv-loop μ-loop loop-holds print-line-requires returns add-index loop-less loop-again returns-2)
