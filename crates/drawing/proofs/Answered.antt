@@ -1,8 +1,8 @@
 -- Laws of specs/Drawn.antt: what is answered in each case.
 use Prim.Native.Nat.{ℕ, _≤_, _<_}
-use mathlib.Core.Path.{_≡_, refl, sym, _∙_, ap}
+use mathlib.Core.Path.{_≡_, refl}
 use mathlib.Core.Logic.{_⊎_, ⊎-elim}
-use mathlib.Core.Bool.{Bool, true, false, cond, _||_}
+use mathlib.Core.Bool.{Bool, true, false, _||_}
 use mathlib.Core.List.{List, _++_}
 use native.Mathlib.Omega.{arith}
 use borrow.Author.Tests.{lt-ltb, le-ltb}
@@ -25,7 +25,7 @@ use Rattle.labelling.proofs.Promises.{standing-loaded}
 use Rattle.drawing.specs.declared.Drawing.{Drawing}
 use Rattle.drawing.specs.declared.Drawing.the-variants as drawing
 use Rattle.drawing.specs.Result.{result-lines, delay-from}
-use Rattle.drawing.specs.Selection.{Placed, roots, Found}
+use Rattle.drawing.specs.Selection.{roots}
 use Rattle.drawing.specs.Drawn.{standing, Ready, drawn-answer, drawn-row, DrawingAnswered, told-line, told-answer, told-row, LineAnswered}
 
 -- Rows in which a network was found to stand are ready for selecting.
@@ -102,6 +102,13 @@ module _ (n : Network) (gates : ℕ) (labels row : List ℕ) (s : size n ≡ gat
       → LineAnswered index (network n) labels row out r after
   unfolding told-answer told-row told-line
   told-made index out h l w = let t = room h l in record { answer = rw (t, s) (w .answer); kept = rw (t, s) (w .kept) }
+
+  -- and what a line's answer says, where there is room
+  pub told-written : {index : ℕ} {out : List ℕ} {r : Written} {after : List ℕ} → gates ≤ length labels → gates ≤ length row
+      → LineAnswered index (network n) labels row out r after
+      → LineWritten (told-line index n labels row) out r after
+  unfolding told-answer told-row
+  told-written h l a = let t = room h l in record { answer = rw t at (a .answer); kept = rw t at (a .kept) }
 
 -- a refusal handed on, and a network's answer
 

@@ -123,7 +123,7 @@ between (q ∷ rs) r t m =
     both-true true y h = (refl, h)
     both-true false y h = let z : _≡_ {A = ℕ} 0 1 = cc in absurd (omega arith)
 
-given-between : {k : ℕ} {l : Line} → (p : _) → Given k p l → (2 ≤ k) × (k ≤ 8)
+pub given-between : {k : ℕ} {l : Line} → (p : _) → Given k p l → (2 ≤ k) × (k ≤ 8)
 unfolding all-between table
 given-between p g = omega (arith, between table (g .row) refl (g .listed), g .numbered)
 

@@ -8,3 +8,5 @@ pub mod LineAt
 pub mod SameLabels
 pub mod Answered
 pub mod Preparing
+pub mod Headline
+pub mod Unique

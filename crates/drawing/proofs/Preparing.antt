@@ -1,12 +1,12 @@
 -- A whole text prepared: reading, labelling and selecting, one after the other, leave the rows that specs/Prepared.antt says.
-use Prim.Native.Nat.{ℕ, zero, suc, _≤_, _<_}
+use Prim.Native.Nat.{ℕ, suc, _≤_, _<_}
 use mathlib.Core.Path.{_≡_, refl, sym, _∙_, ap}
-use mathlib.Core.Bool.{Bool, true, false, cond, _||_}
+use mathlib.Core.Bool.{Bool, true, false, cond}
 use mathlib.Core.List.{List, [], _∷_, _++_}
 use native.Mathlib.Omega.{arith}
 use borrow.Author.Tests.{ltb-false, le-ltb}
 use lib.Dec.{ltb}
-use lib.ListN.{length, getD, set, drop, length-set, length-append, length-drop, List·getD-append, List·getD-eq-default}
+use lib.ListN.{length, getD, drop, length-set, length-append, length-drop, List·getD-append, List·getD-eq-default}
 use lib.Seq.{length-sets}
 use Rattle.model.specs.Network.{Gate, Network, size}
 use Rattle.model.specs.Label.{labels as labels-of}
@@ -29,7 +29,7 @@ use Rattle.drawing.specs.declared.Drawing.{Drawing}
 use Rattle.drawing.specs.declared.Prepared.{Prepared}
 use Rattle.drawing.specs.declared.Prepared.the-variants as prepared
 use Rattle.drawing.specs.Result.{refusal-bytes}
-use Rattle.drawing.specs.Drawn.{drawn-row, DrawingAnswered, told-answer, told-row, LineAnswered}
+use Rattle.drawing.specs.Drawn.{drawn-row, DrawingAnswered, LineAnswered}
 use Rattle.drawing.specs.Prepared.{Lent, any-short, prepared-answer, prepared-rows, prepared-lent, PreparedInto, refusal-line, tell-answer, tell-row, Told, refused-of, Readable}
 use Rattle.drawing.proofs.SameLabels.{marks-same}
 
@@ -53,7 +53,7 @@ module _ (text : List ℕ) (n : Network) (before : Rows) (e : reading text ≡ n
   abbrev after : Rows
   after = fill 0 (n .gates) before
 
-  filled-answer : rows-answer (n .capacity) (n .hop) (size n) after ≡ network n
+  pub filled-answer : rows-answer (n .capacity) (n .hop) (size n) after ≡ network n
   filled-answer =
       spelled (n .capacity) (n .hop) (size n) after (fill-short (size n) 0 (n .gates) before ∙ s)
       ∙ ap reading (read-filled-written text n before e s)

@@ -1,9 +1,9 @@
 -- Label rows that agree on the gates of a network have the same clusters, the same selection and the same result: what
 -- stands behind the labels in a longer row is never looked at.
 use Prim.Native.Nat.{ℕ, zero, suc, _≤_, _<_}
-use mathlib.Core.Path.{_≡_, refl, sym, _∙_, ap}
-use mathlib.Core.Bool.{Bool, cond, not}
-use mathlib.Core.List.{List, [], _∷_, _++_, map, List·Memᴰ·head, List·Memᴰ·tail}
+use mathlib.Core.Path.{_≡_, refl, _∙_, ap}
+use mathlib.Core.Bool.{cond, not}
+use mathlib.Core.List.{List, [], _∷_, map, List·Memᴰ·head, List·Memᴰ·tail}
 use native.Mathlib.Omega.{arith}
 use lib.Dec.{ltb}
 use lib.ListN.{length, getD, replicate}
@@ -12,10 +12,10 @@ use Rattle.model.specs.Network.{Network, size, fanins, outputs, position, gate-
 use Rattle.model.specs.Label.{cluster}
 use Rattle.model.specs.Drawing.{inputs, mark, select, marks, drawn, members}
 use Rattle.model.proofs.Lists.{upto-in}
-use Rattle.model.proofs.Label.{Agree, cluster-agree}
+use Rattle.model.proofs.Label.{cluster-agree}
 use Rattle.model.proofs.Outputs.{outputs-in}
 use Rattle.network.specs.Spelling.{spell-line}
-use Rattle.drawing.specs.Result.{result-lines, delay-from, result-bytes, label-bytes, cluster-bytes, result-end-bytes}
+use Rattle.drawing.specs.Result.{result-lines, delay-from, result-bytes, label-bytes, cluster-bytes}
 
 map-same : {A : Type 0} (f g : ℕ → A) (xs : List ℕ) → ((x : ℕ) → x ∈ xs → f x ≡ g x) → map f xs ≡ map g xs
 map-same f g [] h = refl

@@ -1,5 +1,5 @@
 -- What the sweep marks is what the model selects.
-use Prim.Native.Nat.{ℕ, zero, suc, _≤_, _<_}
+use Prim.Native.Nat.{ℕ, suc, _≤_, _<_}
 use mathlib.Core.Path.{_≡_, refl, sym, _∙_, ap}
 use mathlib.Core.Logic.{⊎-elim}
 use mathlib.Core.Bool.{Bool, true, false, cond, not}
@@ -14,10 +14,10 @@ use Rattle.model.specs.Ceilings.{most-gates}
 use Rattle.model.specs.Network.{Network, size, fanins as fanins-in, outputs, position, gate-at, WellFormed}
 use Rattle.model.specs.Label.{cluster}
 use Rattle.model.specs.Drawing.{inputs, mark, select, marks, drawn, members}
-use Rattle.model.proofs.Lists.{true-or-false, member-true, true-member, false-member, in-keep, keep-in, in-gather, gather-in, in-upto, upto-in, keep-yes, keep-no}
+use Rattle.model.proofs.Lists.{true-or-false, member-true, true-member, false-member, in-keep, keep-in, in-gather, gather-in, in-upto, keep-yes, keep-no}
 use Rattle.model.proofs.UpperBound.{member-position}
 use Rattle.model.proofs.Drawn.{length-select}
-use Rattle.labelling.specs.Standing.{Below, row-fanins, Timed}
+use Rattle.labelling.specs.Standing.{Below, Timed}
 use Rattle.drawing.specs.Selection.{fanins-of, unread, outside, roots, Found}
 use Rattle.drawing.proofs.Marks.{mark-at, length-mark, keep-agree}
 use Rattle.drawing.proofs.Unread.{fanins-are, outputs-are}

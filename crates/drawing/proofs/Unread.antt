@@ -1,22 +1,22 @@
 -- The gates that no gate reads, as the rows tell them, are the primary outputs.
-use Prim.Native.Nat.{ℕ, zero, suc, _≤_, _<_}
+use Prim.Native.Nat.{ℕ, _≤_, _<_}
 use mathlib.Core.Path.{_≡_, refl, sym, _∙_, ap}
 use mathlib.Core.Logic.{⊎-elim}
-use mathlib.Core.Bool.{Bool, true, false, cond}
-use mathlib.Core.List.{List, [], _∷_, _++_, List·Memᴰ·head, List·Memᴰ·tail}
+use mathlib.Core.Bool.{true, false, cond}
+use mathlib.Core.List.{List, [], _∷_, List·Memᴰ·head, List·Memᴰ·tail}
 use native.Mathlib.Omega.{arith}
 use lib.Dec.{eqb}
-use lib.ListN.{length, getD, replicate, length-replicate, getD-replicate}
+use lib.ListN.{getD, replicate, length-replicate, getD-replicate}
 use Rattle.model.specs.Basics.{_∈_, member, keep, gather, upto}
 use Rattle.model.specs.Ceilings.{most-gates}
-use Rattle.model.specs.Network.{Network, size, fanins as fanins-in, empty, read-by, outputs, Output}
+use Rattle.model.specs.Network.{Network, size, fanins as fanins-in, empty, read-by, outputs}
 use Rattle.model.specs.Drawing.{mark}
 use Rattle.model.proofs.Lists.{true-or-false, member-true, true-member, in-keep, keep-in, in-gather, gather-in, in-upto, upto-in}
 use Rattle.model.proofs.Networks.{reader-known}
 use Rattle.model.proofs.Outputs.{outputs-in, in-outputs}
 use Rattle.labelling.specs.Standing.{row-fanins, Timed}
 use Rattle.drawing.specs.Result.{delay-from}
-use Rattle.drawing.specs.Selection.{Placed, fanins-of, unmarked, unread, largest-label}
+use Rattle.drawing.specs.Selection.{fanins-of, unmarked, unread, largest-label}
 use Rattle.drawing.proofs.Marks.{mark-at, keep-agree}
 
 gather-agree : (f g : ℕ → List ℕ) (xs : List ℕ) → ((x : ℕ) → x ∈ xs → f x ≡ g x) → gather f xs ≡ gather g xs

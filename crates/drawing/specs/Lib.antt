@@ -4,3 +4,4 @@ pub mod Demands
 pub mod Selection
 pub mod Drawn
 pub mod Prepared
+pub mod Headline

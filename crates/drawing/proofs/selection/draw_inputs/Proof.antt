@@ -1,13 +1,12 @@
 -- `drawing::selection::draw_inputs` meets its contract: the members that were found are the cluster's, and what lies outside
 -- of their fan-ins are its inputs.
-use Prim.Native.Nat.{ℕ, _≤_, _<_}
+use Prim.Native.Nat.{ℕ, _≤_}
 use mathlib.Core.Path.{_≡_, sym, _∙_, ap}
 use mathlib.Core.List.{List}
 use native.Mathlib.Omega.{arith}
 use borrow.Author.Needs.{needs}
 use lib.ListN.{length, take}
 use lib.Seq.{length-take-le}
-use Rattle.model.specs.Ceilings.{most-gates}
 use Rattle.model.specs.Network.{Network}
 use Rattle.model.specs.Drawing.{mark, members}
 use Rattle.labelling.specs.Standing.{Below}

@@ -1,6 +1,6 @@
 -- `drawing::selection::mark_outputs` meets its contract: the gates without a mark are those that no gate reads.
 use Prim.Native.Nat.{ℕ}
-use mathlib.Core.Path.{_≡_, _∙_, ap}
+use mathlib.Core.Path.{_∙_, ap}
 use mathlib.Core.List.{List}
 use borrow.Author.Needs.{needs}
 use lib.ListN.{length, replicate}

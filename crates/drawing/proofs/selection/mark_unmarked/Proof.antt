@@ -1,6 +1,6 @@
 -- `drawing::selection::mark_unmarked` meets its contract. The loop's invariant: so many marks stand in front of the row.
 use Prim.Native.Nat.{_-_, _≤_}
-use mathlib.Core.Path.{_≡_, refl, _∙_, ap}
+use mathlib.Core.Path.{_≡_, refl}
 use native.Mathlib.Omega.{arith}
 use borrow.Author.Needs.{needs}
 use lib.ListN.{length}

@@ -1,7 +1,7 @@
 -- `drawing::selection::output_delay` meets its contract: the gates without a mark are those that no gate reads. No label of
 -- the row needs more than 32 bits, so the largest does not.
-use Prim.Native.Nat.{ℕ, _<_, _^_}
-use mathlib.Core.Path.{_≡_, refl, _∙_, ap}
+use Prim.Native.Nat.{ℕ, _^_}
+use mathlib.Core.Path.{_≡_, _∙_, ap}
 use mathlib.Core.List.{List}
 use native.Mathlib.Omega.{arith}
 use borrow.Author.Needs.{needs}

@@ -1,5 +1,4 @@
 -- `drawing::selection::output_mark` meets its contract.
-use borrow.Author.Needs.{needs}
 use borrow.Author.Tests.{eq-eqb, ne-eqb}
 use Rattle.drawing.proofs.selection.output_mark.Statement.{statement}
 use Rattle.drawing.proofs.selection.output_mark.Tie as tie

@@ -1,11 +1,9 @@
 -- `drawing::selection::reads` meets its contract. The loop's invariant: the fan-ins of the gates that have been looked at are
 -- marked.
 use Prim.Native.Nat.{ℕ, _-_, _≤_}
-use mathlib.Core.Path.{_≡_, refl, sym, _∙_, ap}
-use mathlib.Core.List.{List}
+use mathlib.Core.Path.{_≡_, refl, _∙_, ap}
 use native.Mathlib.Omega.{arith}
 use borrow.Author.Needs.{needs}
-use lib.ListN.{getD}
 use Rattle.model.specs.Basics.{gather, upto}
 use Rattle.model.specs.Drawing.{mark}
 use Rattle.labelling.proofs.OnwardLaws.{part-is}

@@ -1,8 +1,7 @@
 -- `drawing::selection::sweep` meets its contract. The loop's invariant: the sweep from here gives what the whole sweep gives
 -- from the start.
-use Prim.Native.Nat.{ℕ, suc, _-_, _≤_}
+use Prim.Native.Nat.{suc, _-_, _≤_}
 use mathlib.Core.Path.{_≡_, refl, sym, _∙_, ap}
-use mathlib.Core.List.{List}
 use native.Mathlib.Omega.{arith}
 use borrow.Author.Needs.{needs}
 use lib.ListN.{length}

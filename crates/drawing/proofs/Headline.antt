@@ -1,0 +1,151 @@
+-- The promise over a whole text holds.
+use Prim.Native.Nat.{ℕ, zero, suc, _*_, _≤_, _<_}
+use mathlib.Core.Path.{_≡_, refl, sym, _∙_, ap}
+use mathlib.Core.Bool.{false}
+use mathlib.Core.List.{List, [], _∷_, _++_, List·Memᴰ, List·Memᴰ·head, List·Memᴰ·tail}
+use native.Mathlib.Omega.{arith}
+use borrow.Author.Tests.{le-ltb}
+use lib.ListN.{length, drop, length-append}
+use Rattle.model.specs.Ceilings.{most-gates}
+use Rattle.model.specs.Network.{Network, size}
+use Rattle.model.specs.Label.{labels as labels-of}
+use Rattle.model.specs.Drawing.{marks as marks-of, drawn}
+use Rattle.model.proofs.Drawn.{drawn-known}
+use Rattle.network.specs.Reading.{Reading, refused, network, reading}
+use Rattle.network.specs.Rows.{too-short, fill}
+use Rattle.network.specs.Spelling.{spell-line, rows-answer}
+use Rattle.network.specs.Says.{Says, too-long, faulty-line, no-end, too-heavy}
+use Rattle.network.specs.Writing.{line-at, line-answer, line-row, LineWritten}
+use Rattle.network.specs.declared.writing.Written.{Written}
+use Rattle.network.specs.declared.writing.Written.the-variants.{Line}
+use Rattle.network.proofs.Tests.{never}
+use Rattle.network.proofs.Table.{reading-exactly}
+use Rattle.network.proofs.AcceptedNetwork.{accepted-well-formed, accepted-within-ceilings}
+use Rattle.labelling.specs.Members.{written}
+use Rattle.drawing.specs.declared.Prepared.{Prepared}
+use Rattle.drawing.specs.declared.Prepared.the-variants as prepared
+use Rattle.drawing.specs.Result.{answer-lines, lines-told, network-result, result-lines, refusal-bytes}
+use Rattle.drawing.specs.Demands.{most-line}
+use Rattle.drawing.specs.Drawn.{told-line}
+use Rattle.drawing.specs.Prepared.{Lent, any-short, prepared-answer, prepared-rows, prepared-lent, refusal-line, tell-answer, tell-row, Told}
+use Rattle.drawing.specs.Headline.{Ample, Answers, Headline}
+use Rattle.drawing.proofs.Demands.{given-between, finished, faithful}
+use Rattle.drawing.proofs.Selected.{length-marks, drawn-roots}
+use Rattle.drawing.proofs.SameLabels.{lines-same}
+use Rattle.drawing.proofs.Answered.{told-written}
+use Rattle.drawing.proofs.Preparing.{filled-answer, length-labelled, labels-same}
+
+-- ample rows have room for a network of any text
+
+ample-rows : (gates : ℕ) (l : Lent) → Ample l → gates ≤ most-gates → too-short gates (l .rows) ≡ false
+unfolding too-short
+ample-rows gates l a h =
+    rw (le-ltb (length (l .rows .weights)) gates (omega (arith, a .weights)), le-ltb (length (l .rows .delays)) gates (omega (arith, a .delays)), le-ltb (length (l .rows .counts)) gates (omega (arith, a .counts)), le-ltb (length (l .rows .fanins)) (8 * gates) (omega (arith, a .fanins)))
+
+none-short : (gates : ℕ) (l : Lent) → Ample l → gates ≤ most-gates → any-short gates l ≡ false
+unfolding any-short
+none-short gates l a h =
+    rw (ample-rows gates l a h, le-ltb (length (l .labels)) gates (omega (arith, a .labels)), le-ltb (length (l .marks)) gates (omega (arith, a .marks)))
+
+-- reading never refuses by 10
+below-10 : {text : List ℕ} {k at : ℕ} → Says text k at → k < 10
+below-10 (too-long h) = omega arith
+below-10 (faulty-line {p = p} back fits b here given) = omega (arith, given-between p given)
+below-10 (no-end fits b h) = omega arith
+below-10 (too-heavy fits b h) = omega arith
+
+-- every line of an answer is among its lines, or is none
+line-short : (ls : List (List ℕ)) (most : ℕ) → ((l : List ℕ) → List·Memᴰ l ls → length l ≤ most) → (index : ℕ) → length (line-at index ls) ≤ most
+unfolding line-at
+line-short [] most h index = omega arith
+line-short (l ∷ ls) most h zero = h l (List·Memᴰ·head refl)
+line-short (l ∷ ls) most h (suc index) = line-short ls most (λ k m. h k (List·Memᴰ·tail m)) index
+
+written-whole : {line out : List ℕ} {r : Written} {row : List ℕ} → LineWritten line out r row → length line ≤ length out
+    → (r ≡ Line (length line)) × (row ≡ line ++ drop (length line) out)
+unfolding line-answer line-row
+written-whole {line} {out} w h = let t = le-ltb (length out) (length line) h in (rw t at (w .answer), rw t at (w .kept))
+
+-- the lines of a text that is refused
+refused-lines : (text : List ℕ) (k at : ℕ) → reading text ≡ refused k at → answer-lines text ≡ spell-line (refusal-bytes k at) ∷ []
+unfolding answer-lines lines-told
+refused-lines text k at e = ap lines-told e
+
+refusal-told : (text : List ℕ) {k at : ℕ} {p : Prepared} {index : ℕ} {l : Lent} {out : List ℕ} {r : Written} {row : List ℕ} → reading text ≡ refused k at
+    → p ≡ prepared.Refused k at
+    → Told p index l out r row
+    → LineWritten (line-at index (answer-lines text)) out r row
+unfolding tell-answer tell-row refusal-line
+refusal-told text {k} {at} e q t =
+    let lines = refused-lines text k at e in
+    rw lines (record { answer = rw q at (t .answer); kept = rw q at (t .kept) })
+
+-- The result of a network, told from the rows that were prepared for it.
+module _ (text : List ℕ) (n : Network) (before : Lent) (e : reading text ≡ network n) (a : Ample before) where
+  few : size n ≤ most-gates
+  few = accepted-within-ceilings text n e .gates
+
+  abbrev labels : List ℕ
+  labels = written (labels-of n) (before .labels)
+
+  abbrev marks : List ℕ
+  marks = marks-of n (labels-of n) ++ drop (size n) (before .marks)
+
+  own-lines : result-lines n (labels-of n) (drawn n (labels-of n)) ≡ answer-lines text
+  own-lines = unfold network-result in sym (faithful text n e .frames)
+
+  told-lines : (index : ℕ) → told-line index n labels marks ≡ line-at index (answer-lines text)
+  unfolding told-line
+  told-lines index =
+      ap (line-at index)
+      (ap (result-lines n labels) (drawn-roots n (labels-of n) (size n) (drop (size n) (before .marks)) refl)
+      ∙ lines-same n labels (labels-of n) (labels-same n (before .labels)) (drawn n (labels-of n))
+      (drawn-known n (accepted-well-formed text n e) (labels-of n))
+      ∙ own-lines)
+
+  rows-answered : rows-answer (n .capacity) (n .hop) (size n) (fill 0 (n .gates) (before .rows)) ≡ network n
+  rows-answered = filled-answer text n (before .rows) e (ample-rows (size n) before a few)
+
+  result-told : {index : ℕ} {p : Prepared} {l : Lent} {out : List ℕ} {r : Written} {row : List ℕ} → p ≡ prepared.Result (size n) (n .capacity) (n .hop)
+      → l ≡ prepared-rows n before
+      → Told p index l out r row
+      → LineWritten (line-at index (answer-lines text)) out r row
+  unfolding tell-answer tell-row prepared-rows
+  result-told {index} q k t =
+      rw (← told-lines index)
+      (told-written n (size n) labels marks refl
+      (omega (arith, length-labelled n (before .labels) (omega (arith, a .labels, few)), a .labels, few))
+      (omega (arith, length-append (marks-of n (labels-of n)) (drop (size n) (before .marks)), length-marks n (labels-of n)))
+      (record { answer = rw (q, k, rows-answered) at (t .answer); kept = rw (q, k, rows-answered) at (t .kept) }))
+
+-- A text is refused, and its one line is told; or it is a network's, for which ample rows have room, and its result is told.
+pub headline : Headline
+headline text before after p a into = go (reading text) refl
+  where
+    all : ((index : ℕ) (out : List ℕ) (r : Written) (row : List ℕ) → Told p index after out r row
+        → LineWritten (line-at index (answer-lines text)) out r row)
+        → ((at : ℕ) → p ≡ prepared.Refused 10 at → ⊥)
+        → Answers text p after
+    all lines never-10 =
+        record {
+          line = lines;
+          room =
+              λ index out r row t h.
+              let short = line-short (answer-lines text) most-line (finished text (before .rows) .short) index in
+              written-whole (lines index out r row t) (omega arith);
+          never-10 = never-10;
+        }
+
+    go : (w : Reading) → reading text ≡ w → Answers text p after
+    go (refused k at) q =
+        let told : p ≡ prepared.Refused k at = into .answer ∙ unfold prepared-answer in rw q in
+        all (λ index out r row t. refusal-told text q told t)
+        (λ line ten.
+        let few = below-10 (reading-exactly text .number k at .0 q) in
+        let same : k ≡ 10 = cc in
+        omega arith)
+    go (network n) q =
+        let none = none-short (size n) before a (few text n before q a) in
+        let told : p ≡ prepared.Result (size n) (n .capacity) (n .hop) = into .answer ∙ unfold prepared-answer in rw (q, none) in
+        let left : after ≡ prepared-rows n before = into .lent ∙ unfold prepared-lent in rw (q, none) in
+        all (λ index out r row t. result-told text n before q a told left t) (λ line ten. never cc)
