@@ -163,6 +163,7 @@ mod proved {
 
 /// The labellings that are timed: the baselines and, if it is linked, the proved one.
 fn timed() -> Vec<(&'static str, Label)> {
+    #[allow(unused_mut)]
     let mut timed = vec![("steps", steps::label as Label), ("sorted", sorted::label)];
     #[cfg(feature = "bench")]
     timed.push(("proved", proved::label));
