@@ -1,0 +1,116 @@
+-- `exports::lykophene_line` meets its contract: what `prepare` and `tell` ensure is, by the headline, a line of what the text
+-- answers.
+use mathlib.Core.Path.{ap}
+use native.Mathlib.Omega.{arith}
+use lib.Dec.{lit≤}
+use lib.ListN.{replicate}
+use borrow.Author.Needs.{needs}
+use Rattle.drawing.specs.Headline.{Ample}
+use Rattle.drawing.specs.Prepared.{lent-of}
+use Rattle.exports.specs.Exported.{length-of}
+use Rattle.exports.proofs.Lines.{line-out}
+use Rattle.exports.proofs.lykophene_line.Statement.{statement}
+use Rattle.exports.proofs.lykophene_line.Tie as tie
+
+-- the rows as they are made
+ample : Ample (lent-of (replicate 512 0) (replicate 512 0) (replicate 512 0) (replicate 4_096 0) (replicate 512 0) (replicate 512 0))
+ample =
+    record {
+      weights = lit≤ tt;
+      delays = lit≤ tt;
+      counts = lit≤ tt;
+      fanins = lit≤ tt;
+      labels = lit≤ tt;
+      marks = lit≤ tt;
+    }
+
+slice-aggregate-prepare : tie.Need-slice-aggregate-prepare
+slice-aggregate-prepare c = search needs
+
+slice-aggregate-prepare-2 : tie.Need-slice-aggregate-prepare-2
+slice-aggregate-prepare-2 c = search needs
+
+slice-aggregate-prepare-3 : tie.Need-slice-aggregate-prepare-3
+slice-aggregate-prepare-3 c = search needs
+
+slice-aggregate-prepare-4 : tie.Need-slice-aggregate-prepare-4
+slice-aggregate-prepare-4 c = search needs
+
+slice-aggregate-prepare-5 : tie.Need-slice-aggregate-prepare-5
+slice-aggregate-prepare-5 c = search needs
+
+slice-aggregate-prepare-6 : tie.Need-slice-aggregate-prepare-6
+slice-aggregate-prepare-6 c = search needs
+
+prepare-requires : tie.Need-prepare-requires
+prepare-requires c κs = search needs
+
+slice-aggregate-tell : tie.Need-slice-aggregate-tell
+slice-aggregate-tell c = search needs
+
+slice-aggregate-tell-2 : tie.Need-slice-aggregate-tell-2
+slice-aggregate-tell-2 c = search needs
+
+slice-aggregate-tell-3 : tie.Need-slice-aggregate-tell-3
+slice-aggregate-tell-3 c = search needs
+
+slice-aggregate-tell-4 : tie.Need-slice-aggregate-tell-4
+slice-aggregate-tell-4 c = search needs
+
+slice-aggregate-tell-5 : tie.Need-slice-aggregate-tell-5
+slice-aggregate-tell-5 c = search needs
+
+slice-aggregate-tell-6 : tie.Need-slice-aggregate-tell-6
+slice-aggregate-tell-6 c = search needs
+
+tell-requires : tie.Need-tell-requires
+tell-requires c κs = search needs
+
+enum-known-written : tie.Need-enum-known-written
+enum-known-written c = search needs
+
+enum-told : tie.Need-enum-told
+enum-told c = search needs
+
+same-length : tie.Need-same-length
+same-length c = search needs
+
+returns : tie.Need-returns
+unfolding length-of
+returns c =
+    let t = c .before .before .before .before .before in
+    line-out _ _ _ _ _ _ _ _ _ ample (t .before .before .before .before .before .before .before .before .before .before .before .before .before .before .prepare .ensures) (t .tell .ensures) (ap length-of (c .before .written .given .1))
+
+same-length-2 : tie.Need-same-length-2
+same-length-2 c = search needs
+
+returns-2 : tie.Need-returns-2
+unfolding length-of
+returns-2 c =
+    let t = c .before .before .before .before in
+    line-out _ _ _ _ _ _ _ _ _ ample (t .before .before .before .before .before .before .before .before .before .before .before .before .before .before .prepare .ensures) (t .tell .ensures) (ap length-of (c .enum-told .given .1))
+
+pub lykophene-line-spec : {M : Type 1} → statement M
+lykophene-line-spec =
+    tie.close
+    (tie.spec
+    slice-aggregate-prepare
+    slice-aggregate-prepare-2
+    slice-aggregate-prepare-3
+    slice-aggregate-prepare-4
+    slice-aggregate-prepare-5
+    slice-aggregate-prepare-6
+    prepare-requires
+    slice-aggregate-tell
+    slice-aggregate-tell-2
+    slice-aggregate-tell-3
+    slice-aggregate-tell-4
+    slice-aggregate-tell-5
+    slice-aggregate-tell-6
+    tell-requires
+    enum-known-written
+    enum-told
+    same-length
+    returns
+    same-length-2
+    returns-2)
