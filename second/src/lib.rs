@@ -7,7 +7,7 @@
 //! * `plain` answers by the document's own labelling, for comparison byte by byte.
 //! * `judge` puts these together: one text, one answer, right or wrong.
 //! * `exhaustive`, `random`, `damaged` and `table` make the texts; `backends` gets the answers.
-//! * `steps`, `sorted` and `shapes` are the plain baselines that speed is measured against.
+//! * `steps`, `sorted` and `shapes` are the plain baselines that speed is measured against, `whole` times whole programs.
 
 pub mod backends;
 pub mod best;
@@ -26,3 +26,4 @@ pub mod sorted;
 pub mod steps;
 pub mod table;
 pub mod tally;
+pub mod whole;

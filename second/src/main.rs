@@ -3,19 +3,21 @@
 //! Commands: `table`, `exhaustive [--part I/K]`, `random --count N --seed S [--large L]`,
 //! `damaged --count N --seed S`. Backends: `--program PATH`, `--staticlib`, `--self`. The last line says
 //! how many texts passed and failed; the exit status is 1 if any failed, 2 if the words make no sense.
-//! `shapes` times the plain baselines, `text` prints one of the networks they are timed on.
+//! `shapes` times the plain baselines and, if it is linked, the proved labelling; `whole` times two programs from start
+//! to end; `text` prints one of the networks that they are timed on.
 
 use std::process::ExitCode;
 
 use second::backends::{Answers, Plain, Program};
 use second::tally::Tally;
-use second::{damaged, exhaustive, random, shapes, table};
+use second::{damaged, exhaustive, random, shapes, table, whole};
 
 const USAGE: &str = "usage: second table BACKEND
        second exhaustive [--part I/K] BACKEND
        second random --count N --seed S [--large L] BACKEND
        second damaged --count N --seed S BACKEND
        second shapes
+       second whole PROVED PLAIN
        second text Chain|Last8|Random GATES M
 BACKEND: --program PATH | --staticlib | --self";
 
@@ -39,6 +41,10 @@ fn main() -> ExitCode {
 fn speed(words: &[String]) -> Option<String> {
     match words.iter().map(String::as_str).collect::<Vec<_>>()[..] {
         ["shapes"] => Some(shapes::times()),
+        ["whole", proved, plain] => match whole::ratios(proved.as_ref(), plain.as_ref()) {
+            Ok(table) => Some(table),
+            Err(error) => Some(format!("{proved}, {plain}: {error}\n")),
+        },
         ["text", shape, gates, capacity] => {
             let shape = shapes::SHAPES.into_iter().find(|known| format!("{known:?}") == shape)?;
             let network = shapes::network(shape, gates.parse().ok()?, capacity.parse().ok()?);

@@ -170,7 +170,8 @@ fn timed() -> Vec<(&'static str, Label)> {
     timed
 }
 
-/// A table of times in microseconds, for 64 to 512 gates, and of the proved labelling's time by each baseline's.
+/// A table of times in microseconds for 64 to 512 gates; of the proved labelling's time by each baseline's; and, at 512
+/// gates, of its time by its own at 64. Without the proved labelling only the times.
 pub fn times() -> String {
     let timed = timed();
     let mut table = format!("{:>8} {:>5} {:>5}", "shape", "M", "gates");
@@ -178,31 +179,40 @@ pub fn times() -> String {
         table += &format!(" {name:>10}");
     }
     if timed.len() > 2 {
-        table += &format!(" {:>12} {:>13}", "proved/steps", "proved/sorted");
+        table += &format!(" {:>12} {:>13} {:>6}", "proved/steps", "proved/sorted", "512/64");
     }
     table += "\n";
     for shape in SHAPES {
         for capacity in CAPACITIES {
+            let mut first = None;
             for gates in [64, 128, 256, 512] {
-                let owned = Owned::of(&network(shape, gates, capacity));
-                let expected = labels(steps::label, &owned.rows());
-                let mut times = Vec::new();
-                for (name, label) in &timed {
-                    assert_eq!(labels(*label, &owned.rows()), expected, "{name} gives other labels");
-                    times.push(time(*label, &owned.rows()).as_secs_f64() * 1e6);
-                }
+                let times = labelled(&timed, &Owned::of(&network(shape, gates, capacity)));
                 table += &format!("{:>8} {capacity:>5} {gates:>5}", format!("{shape:?}"));
                 for time in &times {
                     table += &format!(" {time:>10.1}");
                 }
                 if let [steps, sorted, proved] = times[..] {
                     table += &format!(" {:>12.2} {:>13.2}", proved / steps, proved / sorted);
+                    let first = *first.get_or_insert(proved);
+                    if gates == 512 {
+                        table += &format!(" {:>6.0}", proved / first);
+                    }
                 }
                 table += "\n";
             }
         }
     }
     table
+}
+
+/// The time of each labelling of a network, in microseconds. All have to give the same labels.
+fn labelled(timed: &[(&str, Label)], owned: &Owned) -> Vec<f64> {
+    let expected = labels(steps::label, &owned.rows());
+    let one = |&(name, label): &(&str, Label)| {
+        assert_eq!(labels(label, &owned.rows()), expected, "{name} gives other labels");
+        time(label, &owned.rows()).as_secs_f64() * 1e6
+    };
+    timed.iter().map(one).collect()
 }
 
 #[cfg(test)]

@@ -1,7 +1,9 @@
-//! The whole program in plain Rust, for its time from start to end: reads one text from standard input,
-//! labels it by `steps`, draws by a walk for each drawn root, and prints line by line, with another walk
-//! for each cluster's line. Each line is written by itself; with the word `blocks`, in blocks.
+//! The whole program in plain Rust, for its time from start to end: reads one text from standard input, labels it by
+//! `steps`, draws by a walk for each drawn root, and prints line by line, with another walk for each cluster's line. Like
+//! the proved program it looks at the rows again before each of these, because each proved function answers for any rows.
+//! With the word `lean` it looks once, and writes in blocks.
 
+use std::hint::black_box;
 use std::io::{self, BufWriter, Read, Write};
 
 use second::rules::{self, Network, LONGEST_TEXT, MOST_GATES};
@@ -12,42 +14,53 @@ fn main() -> io::Result<()> {
     let mut text = Vec::with_capacity(LONGEST_TEXT + 1);
     io::stdin().take(LONGEST_TEXT as u64 + 1).read_to_end(&mut text)?;
     let lines = io::stdout().lock();
-    if std::env::args().nth(1).as_deref() == Some("blocks") {
+    if std::env::args().nth(1).as_deref() == Some("lean") {
         let mut blocks = BufWriter::with_capacity(16_384, lines);
-        answer(&text, &mut blocks)?;
+        answer(&text, true, &mut blocks)?;
         blocks.flush()
     } else {
-        answer(&text, lines)
+        answer(&text, false, lines)
     }
 }
 
-fn answer(text: &[u8], mut out: impl Write) -> io::Result<()> {
+fn answer(text: &[u8], lean: bool, mut out: impl Write) -> io::Result<()> {
     match rules::read(text) {
         Err(refusal) => out.write_all(&refusal.answer()),
         Ok(network) => match network.too_heavy() {
             Some(refusal) => out.write_all(&refusal.answer()),
-            None => result(&network, out),
+            None => result(&network, lean, out),
         },
     }
 }
 
-fn result(network: &Network, mut out: impl Write) -> io::Result<()> {
+fn result(network: &Network, lean: bool, mut out: impl Write) -> io::Result<()> {
     let owned = Owned::of(network);
     let rows = owned.rows();
+    let look = || {
+        if !lean {
+            assert!(steps::stand(black_box(&rows)), "the rows of a network that was read");
+        }
+    };
+    look();
     let labels = labels(steps::label, &rows);
     let mut local = steps::Local::new();
     let mut drawn = [false; MOST_GATES];
-    steps::draw(&rows, &labels, &mut local, &mut drawn);
+    look();
+    steps::draw(&rows, &labels, &mut local, &mut drawn, look);
     let mut line = Line { out: &mut out, text: Vec::with_capacity(2_059) };
 
     let outputs = network.outputs();
     let delay = (0..rows.gates).filter(|&gate| outputs[gate]).map(|gate| labels[gate]).max();
     let clusters = drawn.iter().filter(|&&drawn| drawn).count();
+    look();
     line.print(0x11, &[(delay.unwrap_or(0) as usize, 4), (clusters, 2)])?;
     for (gate, &label) in labels[..rows.gates].iter().enumerate() {
+        look();
         line.print(0x12, &[(gate, 2), (label as usize, 4)])?;
     }
     for root in (0..rows.gates).filter(|&root| drawn[root]) {
+        look(); // for the line
+        look(); // for the cluster
         let joined = steps::cluster(&rows, &labels, root, &mut local);
         let inside = steps::members(root, joined);
         let members = (0..=root).filter(|&gate| inside[gate]);
@@ -55,6 +68,7 @@ fn result(network: &Network, mut out: impl Write) -> io::Result<()> {
         members.for_each(|member| hex::push(&mut line.text, member, 2));
         line.end()?;
     }
+    look();
     line.print(0x1F, &[(rows.gates, 2)])
 }
 
