@@ -16,7 +16,8 @@ ghost use Rattle.model.specs.Network.{Network};
 ghost use Rattle.model.specs.Label.{label-from, labels as labels-of};
 ghost use Rattle.labelling.specs.Loaded.{standing, Loaded};
 ghost use Rattle.labelling.specs.Growing.{stop-of, or-input, input-pulls, stop-pull};
-ghost use Rattle.labelling.specs.Standing.{Whole, Below, Wired, Timed, Weighed};
+ghost use Rattle.units.specs.Units.{held-sum};
+ghost use Rattle.labelling.specs.Standing.{Whole, Below, Wired, Timed, Weighed, pull-in};
 
 // The larger of a time and the pull of u, if u is a primary input.
 fn or_input(counts: &[u8], pulls: &Row, time: Ticks, u: usize) -> Ticks
@@ -43,13 +44,21 @@ fn input_pulls(counts: &[u8], pulls: &Row, ordered: &Order, joined: usize) -> Ti
     largest
 }
 
+// The pull of a gate that stays outside, plus D: whatever gate it is, "its crossing edges cost a hop".
+fn outside_pull(hop: Ticks, pulls: &Row, u: usize) -> Ticks
+    requires { ⌜ u < most-gates ⌝ }
+    ensures { λ r. ⌜ r .0 ≡ held-sum (pull-in (now (pulls .entry)) u) (hop .0) ⌝ }
+{
+    Ticks(pulls[u]).plus(hop)
+}
+
 // "the pull of the gate that stopped growth plus D (0 if none stopped it)"
 fn stop_pull(hop: Ticks, pulls: &Row, stop: Stop) -> Ticks
     requires { ⌜ ((s : ℕ) → stop-of stop ≡ some s → s < most-gates) ⌝ }
     ensures { λ r. ⌜ r .0 ≡ stop-pull (hop .0) (now (pulls .entry)) (stop-of stop) ⌝ }
 {
     match stop {
-        Stop::At(u) => Ticks(pulls[u]).plus(hop),
+        Stop::At(u) => outside_pull(hop, pulls, u),
         Stop::Nothing => Ticks(0),
     }
 }
