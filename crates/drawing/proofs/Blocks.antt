@@ -14,7 +14,7 @@ use Rattle.model.specs.Network.{Network, size}
 use Rattle.model.specs.Drawing.{members}
 use Rattle.model.proofs.Lists.{true-or-false}
 use Rattle.network.specs.Reading.{Reading, refused, network}
-use Rattle.network.specs.Spelling.{spell-line, rows-answer}
+use Rattle.network.specs.Spelling.{spell-line, join, rows-answer}
 use Rattle.network.specs.Writing.{line-at, line-answer, line-row, LineWritten}
 use Rattle.network.specs.declared.writing.Written.{Written}
 use Rattle.network.specs.declared.writing.Written.the-variants as written
@@ -28,7 +28,7 @@ use Rattle.drawing.specs.Result.{result-lines, result-bytes, label-bytes
 use Rattle.drawing.specs.Selection.{roots}
 use Rattle.drawing.specs.Drawn.{told-line, told-answer, told-row, later-lines, LineAnswered}
 use Rattle.drawing.specs.Prepared.{Lent}
-use Rattle.drawing.specs.Block.{joined, fitting, if-fits, run-answer, in-front, lines-answer, lines-row, LinesWritten, told-lines, block-answer, block-row, BlockAnswered, refusal-lines, tell-lines-answer, tell-lines-row, ToldLines, Added, Begun, Ran}
+use Rattle.drawing.specs.Block.{fitting, if-fits, run-answer, in-front, lines-answer, lines-row, LinesWritten, drawn-lines, block-answer, block-row, BlockAnswered, refusal-lines, tell-lines-answer, tell-lines-row, ToldLines, Added, Begun, Ran}
 use Rattle.drawing.proofs.Demands.{line-length, result-count}
 use Rattle.drawing.proofs.Marks.{roots-few}
 use Rattle.drawing.proofs.LineAt.{first-at, label-at, later-at, cluster-at, end-at}
@@ -86,11 +86,11 @@ module _ (line out : List ℕ) (at : ℕ) (within : at ≤ length out) where
 -- no line left, a first line without room, and a first line with room
 
 pub none-left : (out : List ℕ) → LinesWritten [] out (block.Lines 0 0) out
-unfolding lines-answer lines-row run-answer fitting joined
+unfolding lines-answer lines-row run-answer fitting join
 none-left out = record { answer = refl; kept = refl }
 
 none-fits : (ls : List (List ℕ)) (out : List ℕ) → length out < length (line-at 0 ls) → LinesWritten ls out (block.Refused 10 0) out
-unfolding lines-answer lines-row run-answer fitting joined line-at
+unfolding lines-answer lines-row run-answer fitting join line-at
 none-fits [] out h = absurd (omega arith)
 none-fits (l ∷ ls) out h = let t = lt-ltb (length out) (length l) h in record { answer = rw t; kept = rw t }
 
@@ -99,16 +99,21 @@ unfolding fitting line-at
 first-fits [] room h = refl
 first-fits (l ∷ ls) room h = rw (le-ltb room (length l) h)
 
-some-fit : (ls : List (List ℕ)) (room : ℕ) → length (line-at 0 ls) ≤ room
-    → run-answer ls (fitting room ls) ≡ block.Lines (length (fitting room ls)) (length (joined (fitting room ls)))
-unfolding fitting line-at run-answer joined
+pub some-fit : (ls : List (List ℕ)) (room : ℕ) → length (line-at 0 ls) ≤ room
+    → run-answer ls (fitting room ls) ≡ block.Lines (length (fitting room ls)) (length (join (fitting room ls)))
+unfolding fitting line-at run-answer join
 some-fit [] room h = refl
 some-fit (l ∷ ls) room h = rw (le-ltb room (length l) h)
 
-joined-first : (ls : List (List ℕ)) → joined ls ≡ line-at 0 ls ++ joined (drop 1 ls)
-unfolding joined line-at
-joined-first [] = refl
-joined-first (l ∷ ls) = refl
+pub one-fits : (ls : List (List ℕ)) (room : ℕ) → length (line-at 0 ls) ≤ room → 0 < length ls → 0 < length (fitting room ls)
+unfolding fitting line-at
+one-fits [] room h some = absurd (omega arith)
+one-fits (l ∷ ls) room h some = rw (le-ltb room (length l) h) (omega arith)
+
+join-first : (ls : List (List ℕ)) → join ls ≡ line-at 0 ls ++ join (drop 1 ls)
+unfolding join line-at
+join-first [] = refl
+join-first (l ∷ ls) = refl
 
 -- what stands in front already may be put there again
 front-twice : (bytes more out : List ℕ) → in-front (bytes ++ more) (in-front bytes out) ≡ in-front (bytes ++ more) out
@@ -146,13 +151,13 @@ module _ (ls : List (List ℕ)) (out : List ℕ) {r : Written} {row : List ℕ} 
     unfolding lines-answer lines-row
     lines-ran ran =
         let fit = fitting (length out) ls in
-        let parts : joined fit ≡ line-at 0 ls ++ joined (drop 1 fit) = joined-first fit ∙ ap (λ (l : List ℕ). l ++ joined (drop 1 fit)) (first-fits ls (length out) fits) in
+        let parts : join fit ≡ line-at 0 ls ++ join (drop 1 fit) = join-first fit ∙ ap (λ (l : List ℕ). l ++ join (drop 1 fit)) (first-fits ls (length out) fits) in
         record {
           answer = (rw same-length at (ran .answer)) ∙ sym (some-fit ls (length out) fits);
           kept =
               (rw (same-length, row-is) at (ran .kept))
               ∙ ap (λ (bytes : List ℕ). in-front bytes (in-front (line-at 0 ls) out)) parts
-              ∙ front-twice (line-at 0 ls) (joined (drop 1 fit)) out
+              ∙ front-twice (line-at 0 ls) (join (drop 1 fit)) out
               ∙ sym (ap (λ (bytes : List ℕ). in-front bytes out) parts);
         }
 
@@ -173,7 +178,7 @@ module _ (index number line : ℕ) (out : List ℕ) where
         rw (first, h .1, h .2) (lines-refused (refusal-lines number line) out first-line e)
 
     pub refusal-whole : {bytes : ℕ} → r ≡ written.Line bytes → LinesWritten (drop index (refusal-lines number line)) out (block.Lines 1 bytes) row
-    unfolding lines-answer lines-row run-answer fitting joined
+    unfolding lines-answer lines-row run-answer fitting join
     refusal-whole e =
         let h = has-room (spell-line (refusal-bytes number line)) out w e in
         let t = le-ltb (length out) (length (spell-line (refusal-bytes number line))) (h .0) in
@@ -201,19 +206,19 @@ module _ (n : Network) (labels rs : List ℕ) where
       (true-or-false (ltb k (size n)))
 
 module _ (n : Network) (labels row : List ℕ) where
-  pub told-full : Full (told-lines n labels row)
-  unfolding told-lines
-  told-full = result-full n labels (roots row (size n))
+  pub lines-full : Full (drawn-lines n labels row)
+  unfolding drawn-lines
+  lines-full = result-full n labels (roots row (size n))
 
-  pub told-count : length (told-lines n labels row) ≤ 2 + 2 * size n
-  unfolding told-lines
-  told-count = omega (arith, result-count n labels (roots row (size n)), roots-few row (size n))
+  pub lines-count : length (drawn-lines n labels row) ≤ 2 + 2 * size n
+  unfolding drawn-lines
+  lines-count = omega (arith, result-count n labels (roots row (size n)), roots-few row (size n))
 
-  pub told-at : (index : ℕ) → told-line index n labels row ≡ line-at index (told-lines n labels row)
-  unfolding told-line told-lines
+  pub told-at : (index : ℕ) → told-line index n labels row ≡ line-at index (drawn-lines n labels row)
+  unfolding told-line drawn-lines
   told-at index = refl
 
-  told-first : (index : ℕ) → told-line index n labels row ≡ line-at 0 (drop index (told-lines n labels row))
+  told-first : (index : ℕ) → told-line index n labels row ≡ line-at 0 (drop index (drawn-lines n labels row))
   unfolding line-at
   told-first index =
       let here : index + 0 ≡ index = omega arith in
@@ -221,14 +226,23 @@ module _ (n : Network) (labels row : List ℕ) where
 
   -- a run of lines where labels and marks have room, and where not
   pub block-made : {index : ℕ} {out : List ℕ} {b : Block} {after : List ℕ} → either-short (size n) labels row ≡ false
-      → LinesWritten (drop index (told-lines n labels row)) out b after
+      → LinesWritten (drop index (drawn-lines n labels row)) out b after
       → BlockAnswered index (network n) labels row out b after
   unfolding block-answer block-row
   block-made t w = record { answer = rw t (w .answer); kept = rw t (w .kept) }
 
+  -- and what is answered where they have room
+  pub block-written : {index : ℕ} {out : List ℕ} {b : Block} {after : List ℕ} → size n ≤ length labels → size n ≤ length row
+      → BlockAnswered index (network n) labels row out b after
+      → LinesWritten (drop index (drawn-lines n labels row)) out b after
+  unfolding block-answer block-row
+  block-written h l a =
+      let t : either-short (size n) labels row ≡ false = rw (le-ltb (length labels) (size n) h, le-ltb (length row) (size n) l) in
+      record { answer = rw t at (a .answer); kept = rw t at (a .kept) }
+
   -- the first line's answer
   module _ {index : ℕ} {out : List ℕ} {r : Written} {row′ : List ℕ} (a : LineAnswered index (network n) labels row out r row′) where
-    first-written : either-short (size n) labels row ≡ false → LineWritten (line-at 0 (drop index (told-lines n labels row))) out r row′
+    first-written : either-short (size n) labels row ≡ false → LineWritten (line-at 0 (drop index (drawn-lines n labels row))) out r row′
     unfolding told-answer told-row
     first-written t = rw (← told-first index) (record { answer = rw t at (a .answer); kept = rw t at (a .kept) })
 
@@ -236,7 +250,7 @@ module _ (n : Network) (labels row : List ℕ) where
     unfolding told-row block-answer block-row
     first-refused e =
         ⊎-elim (λ t. record { answer = rw t; kept = rw t (rw t at (a .kept)) })
-        (λ t. block-made t (lines-refused (drop index (told-lines n labels row)) out (first-written t) e))
+        (λ t. block-made t (lines-refused (drop index (drawn-lines n labels row)) out (first-written t) e))
         (true-or-false (either-short (size n) labels row))
 
     module _ {first : ℕ} (e : r ≡ written.Line first) where
@@ -250,12 +264,12 @@ module _ (n : Network) (labels row : List ℕ) where
       first-rooms =
           let t = neither-true (ltb (length labels) (size n)) (ltb (length row) (size n)) roomy in (ltb-false _ _ (t .0), ltb-false _ _ (t .1))
 
-      pub first-begun : Begun (drop index (told-lines n labels row)) first row′
-      first-begun = lines-begun (drop index (told-lines n labels row)) out (first-written roomy) e
+      pub first-begun : Begun (drop index (drawn-lines n labels row)) first row′
+      first-begun = lines-begun (drop index (drawn-lines n labels row)) out (first-written roomy) e
 
-      pub first-ran : {b : Block} {after : List ℕ} → Ran (drop index (told-lines n labels row)) row′ b after
+      pub first-ran : {b : Block} {after : List ℕ} → Ran (drop index (drawn-lines n labels row)) row′ b after
           → BlockAnswered index (network n) labels row out b after
-      first-ran ran = block-made roomy (lines-ran (drop index (told-lines n labels row)) out (first-written roomy) e ran)
+      first-ran ran = block-made roomy (lines-ran (drop index (drawn-lines n labels row)) out (first-written roomy) e ran)
 
 -- a refusal handed on, and a network's answer
 

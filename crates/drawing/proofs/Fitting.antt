@@ -11,19 +11,20 @@ use lib.Dec.{ltb}
 use lib.ListN.{length, take, drop, length-append, length-take, length-drop, List·getD-eq-default}
 use lib.Seq.{take-all, take-at, drop-append-add, drop-drop, getD-drop}
 use Rattle.model.proofs.Lists.{true-or-false}
+use Rattle.network.specs.Spelling.{join}
 use Rattle.network.specs.Writing.{line-at}
 use Rattle.drawing.specs.declared.block.Block.{Block}
 use Rattle.drawing.specs.declared.block.Block.the-variants.{Lines}
-use Rattle.drawing.specs.Block.{joined, fitting, if-fits, in-front, lines-row, Added, Begun, Ran}
+use Rattle.drawing.specs.Block.{fitting, LongestRun, if-fits, in-front, lines-row, Added, Begun, Ran}
 
 -- what is before a line, and the line
 
-pub joined-more : (k : ℕ) (ls : List (List ℕ)) → joined (take (suc k) ls) ≡ joined (take k ls) ++ line-at k ls
-unfolding joined line-at
-joined-more zero [] = refl
-joined-more (suc k) [] = refl
-joined-more zero (l ∷ ls) = append-nil l
-joined-more (suc k) (l ∷ ls) = rw (joined-more k ls, append-assoc)
+pub join-more : (k : ℕ) (ls : List (List ℕ)) → join (take (suc k) ls) ≡ join (take k ls) ++ line-at k ls
+unfolding join line-at
+join-more zero [] = refl
+join-more (suc k) [] = refl
+join-more zero (l ∷ ls) = append-nil l
+join-more (suc k) (l ∷ ls) = rw (join-more k ls, append-assoc)
 
 pub past-last : (k : ℕ) (ls : List (List ℕ)) → length ls ≤ k → line-at k ls ≡ []
 unfolding line-at
@@ -44,16 +45,42 @@ fitting-few room [] = omega arith
 fitting-few room (l ∷ ls) =
     ⊎-elim (λ t. rw t (omega arith)) (λ t. rw t (omega (arith, fitting-few (room - length l) ls))) (true-or-false (ltb room (length l)))
 
-pub fitting-room : (k room : ℕ) (ls : List (List ℕ)) → length (joined (take k (fitting room ls))) ≤ room
-unfolding fitting joined
+pub fitting-room : (k room : ℕ) (ls : List (List ℕ)) → length (join (take k (fitting room ls))) ≤ room
+unfolding fitting join
 fitting-room zero room ls = omega arith
 fitting-room (suc k) room [] = omega arith
 fitting-room (suc k) room (l ∷ ls) =
     ⊎-elim (λ t. rw t (omega arith))
     (λ t.
     rw t
-    (omega (arith, length-append l (joined (take k (fitting (room - length l) ls))), fitting-room k (room - length l) ls, ltb-false room (length l) t)))
+    (omega (arith, length-append l (join (take k (fitting (room - length l) ls))), fitting-room k (room - length l) ls, ltb-false room (length l) t)))
     (true-or-false (ltb room (length l)))
+
+-- The run is the longest from the front that has room.
+fitting-front : (room : ℕ) (ls : List (List ℕ)) → fitting room ls ≡ take (length (fitting room ls)) ls
+unfolding fitting
+fitting-front room [] = refl
+fitting-front room (l ∷ ls) =
+    ⊎-elim (λ t. rw t) (λ t. rw t (ap (λ (run : List (List ℕ)). l ∷ run) (fitting-front (room - length l) ls))) (true-or-false (ltb room (length l)))
+
+fitting-longest : (k room : ℕ) (ls : List (List ℕ)) → k ≤ length ls → length (join (take k ls)) ≤ room → k ≤ length (fitting room ls)
+unfolding fitting join
+fitting-longest zero room ls h fits = omega arith
+fitting-longest (suc k) room [] h fits = absurd (omega arith)
+fitting-longest (suc k) room (l ∷ ls) h fits =
+    let parts = length-append l (join (take k ls)) in
+    ⊎-elim (λ t. absurd (omega (arith, ltb-true room (length l) t)))
+    (λ t. rw t (omega (arith, fitting-longest k (room - length l) ls (omega arith) (omega arith))))
+    (true-or-false (ltb room (length l)))
+
+pub longest-run : (room : ℕ) (ls : List (List ℕ)) → LongestRun room ls (fitting room ls)
+longest-run room ls =
+    let whole : take (length ls) (fitting room ls) ≡ fitting room ls = take-all (length ls) (fitting room ls) (fitting-few room ls) in
+    record {
+      front = fitting-front room ls;
+      room-for = rw whole at (fitting-room (length ls) room ls);
+      longest = λ k. fitting-longest k room ls;
+    }
 
 -- nothing has room, and nothing comes of it
 none : (room : ℕ) → if-fits room [] ≡ []
@@ -62,9 +89,9 @@ none room = ⊎-elim (λ t. rw t) (λ t. rw t) (true-or-false (ltb room 0))
 
 -- Behind so many lines of the run the next one is in it exactly when it has room there.
 pub fitting-at : (k room : ℕ) (ls : List (List ℕ)) → k ≤ length (fitting room ls)
-    → line-at k (fitting room ls) ≡ if-fits (room - length (joined (take k (fitting room ls)))) (line-at k ls)
-unfolding fitting joined line-at if-fits
-fitting-at k room [] h = sym (none (room - length (joined (take k []))))
+    → line-at k (fitting room ls) ≡ if-fits (room - length (join (take k (fitting room ls)))) (line-at k ls)
+unfolding fitting join line-at if-fits
+fitting-at k room [] h = sym (none (room - length (join (take k []))))
 fitting-at zero room (l ∷ ls) h = first (room - 0) (omega arith)
   where
     first : (left : ℕ) → left ≡ room → line-at 0 (fitting room (l ∷ ls)) ≡ if-fits left l
@@ -73,8 +100,8 @@ fitting-at (suc k) room (l ∷ ls) h =
     ⊎-elim (λ t. absurd (omega (arith, rw t at h)))
     (λ t.
     let fit = fitting (room - length l) ls in
-    let less : room - length l - length (joined (take k fit)) ≡ room - length (l ++ joined (take k fit)) =
-    omega (arith, length-append l (joined (take k fit)))
+    let less : room - length l - length (join (take k fit)) ≡ room - length (l ++ join (take k fit)) =
+    omega (arith, length-append l (join (take k fit)))
     in
     rw t (fitting-at k (room - length l) ls (omega (arith, rw t at h)) ∙ ap (λ (left : ℕ). if-fits left (line-at k ls)) less))
     (true-or-false (ltb room (length l)))
@@ -114,29 +141,29 @@ front-more bytes more out row at e n =
 -- So many lines of the run stand in front of the row and the next one behind them, with its bytes, 0 where there is none.
 pub record Running (ls : List (List ℕ)) (out row : List ℕ) (bytes at count : ℕ) : Type 0 where
   pub few : count ≤ length (fitting (length out) ls)
-  pub past : at ≡ length (joined (take count (fitting (length out) ls)))
+  pub past : at ≡ length (join (take count (fitting (length out) ls)))
   pub next : bytes ≡ length (line-at count (fitting (length out) ls))
-  pub row-is : row ≡ in-front (joined (take (suc count) (fitting (length out) ls))) out
+  pub row-is : row ≡ in-front (join (take (suc count) (fitting (length out) ls))) out
 
 module _ (ls : List (List ℕ)) (out : List ℕ) where
   abbrev fit : List (List ℕ)
   fit = fitting (length out) ls
 
   pub running-starts : {first : ℕ} → Begun ls first out → Running ls out out first 0 0
-  unfolding joined
+  unfolding join
   running-starts b =
-      record { few = omega arith; past = refl; next = b .many; row-is = rw (joined-more 0 fit) (b .stands) }
+      record { few = omega arith; past = refl; next = b .many; row-is = rw (join-more 0 fit) (b .stands) }
 
   module _ {row : List ℕ} {bytes at count : ℕ} (r : Running ls out row bytes at count) where
     -- the bytes up to the next line and with it
-    past-next : at + bytes ≡ length (joined (take (suc count) fit))
-    past-next = omega (arith, r .past, r .next, ap length (joined-more count fit), length-append (joined (take count fit)) (line-at count fit))
+    past-next : at + bytes ≡ length (join (take (suc count) fit))
+    past-next = omega (arith, r .past, r .next, ap length (join-more count fit), length-append (join (take count fit)) (line-at count fit))
 
     pub running-room : at + bytes ≤ length out
     running-room = omega (arith, past-next, fitting-room (suc count) (length out) ls)
 
     pub running-kept : length row ≡ length out
-    running-kept = ap length (r .row-is) ∙ length-front (joined (take (suc count) fit)) out (fitting-room (suc count) (length out) ls)
+    running-kept = ap length (r .row-is) ∙ length-front (join (take (suc count) fit)) out (fitting-room (suc count) (length out) ls)
 
     pub running-more : 0 < bytes → count < length fit
     running-more h = among count fit (omega (arith, r .next))
@@ -144,7 +171,7 @@ module _ (ls : List (List ℕ)) (out : List ℕ) where
     pub running-turns : {bytes′ : ℕ} {row′ : List ℕ} → 0 < bytes → Added (line-at (suc count) ls) (at + bytes) row bytes′ row′
         → Running ls out row′ bytes′ (at + bytes) (suc count)
     running-turns h a =
-        let left : length row - (at + bytes) ≡ length out - length (joined (take (suc count) fit)) = omega (arith, past-next, running-kept) in
+        let left : length row - (at + bytes) ≡ length out - length (join (take (suc count) fit)) = omega (arith, past-next, running-kept) in
         let line : if-fits (length row - (at + bytes)) (line-at (suc count) ls) ≡ line-at (suc count) fit =
         rw left (sym (fitting-at (suc count) (length out) ls (omega (arith, running-more h))))
         in
@@ -155,8 +182,8 @@ module _ (ls : List (List ℕ)) (out : List ℕ) where
           next = many;
           row-is =
               (rw (line, many) at (a .row-is))
-              ∙ front-more (joined (take (suc count) fit)) (line-at (suc count) fit) out row (at + bytes) (r .row-is) past-next
-              ∙ rw (joined-more (suc count) fit);
+              ∙ front-more (join (take (suc count) fit)) (line-at (suc count) fit) out row (at + bytes) (r .row-is) past-next
+              ∙ rw (join-more (suc count) fit);
         }
 
     pub running-ends : Full ls → (0 < bytes → ⊥) → Ran ls out (Lines count at) row
@@ -169,4 +196,4 @@ module _ (ls : List (List ℕ)) (out : List ℕ) where
         let many : count ≡ length fit = omega (arith, r .few) in
         let whole : take count fit ≡ fit = take-all count fit all in
         let whole′ : take (suc count) fit ≡ fit = take-all (suc count) fit (omega arith) in
-        record { answer = rw (← many) (ap (Lines count) (r .past ∙ ap (λ (l : List (List ℕ)). length (joined l)) whole)); kept = rw whole′ at (r .row-is) }
+        record { answer = rw (← many) (ap (Lines count) (r .past ∙ ap (λ (l : List (List ℕ)). length (join l)) whole)); kept = rw whole′ at (r .row-is) }

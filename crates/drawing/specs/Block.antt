@@ -1,5 +1,5 @@
 -- A run of lines in one call: as many whole lines, from an index on, as the lent row has room for.
-use Prim.Native.Nat.{ℕ, _+_, _-_}
+use Prim.Native.Nat.{ℕ, _+_, _-_, _≤_}
 use mathlib.Core.Path.{_≡_}
 use mathlib.Core.Bool.{cond}
 use mathlib.Core.List.{List, [], _∷_, _++_}
@@ -7,7 +7,7 @@ use lib.Dec.{ltb}
 use lib.ListN.{length, take, drop}
 use Rattle.model.specs.Network.{Network, size}
 use Rattle.network.specs.Reading.{Reading, refused, network}
-use Rattle.network.specs.Spelling.{spell-line, rows-answer}
+use Rattle.network.specs.Spelling.{spell-line, join, rows-answer}
 use Rattle.network.specs.Writing.{line-at}
 use Rattle.labelling.specs.Promises.{either-short}
 use Rattle.drawing.specs.declared.block.Block.{Block}
@@ -18,22 +18,23 @@ use Rattle.drawing.specs.Result.{result-lines, refusal-bytes}
 use Rattle.drawing.specs.Selection.{roots}
 use Rattle.drawing.specs.Prepared.{Lent}
 
--- the bytes of some lines, one line behind the other
-unfoldable pub joined : List (List ℕ) → List ℕ
-joined [] = []
-joined (l ∷ ls) = l ++ joined ls
-
--- The longest run of whole lines from the front whose bytes together have room.
+-- as many whole lines from the front as together have room
 unfoldable pub fitting : ℕ → List (List ℕ) → List (List ℕ)
 fitting room [] = []
 fitting room (l ∷ ls) = cond (ltb room (length l)) [] (l ∷ fitting (room - length l) ls)
+
+-- What `fitting` picks, in words: lines from the front whose bytes together have room, and no longer run of them has.
+pub record LongestRun (room : ℕ) (ls run : List (List ℕ)) : Type 0 where
+  pub front : run ≡ take (length run) ls
+  pub room-for : length (join run) ≤ room
+  pub longest : (k : ℕ) → k ≤ length ls → length (join (take k ls)) ≤ room → k ≤ length run
 
 -- The answer for the lines that are left and those of them that fit: how many fit and their bytes; 10 at line 0 where a
 -- line is left and none fits.
 unfoldable pub run-answer : List (List ℕ) → List (List ℕ) → Block
 run-answer [] fit = block.Lines 0 0
 run-answer (l ∷ ls) [] = block.Refused 10 0
-run-answer (l ∷ ls) (f ∷ fit) = block.Lines (length (f ∷ fit)) (length (joined (f ∷ fit)))
+run-answer (l ∷ ls) (f ∷ fit) = block.Lines (length (f ∷ fit)) (length (join (f ∷ fit)))
 
 -- some bytes in front of a row, the rest of the row as it was
 abbrev pub in-front : List ℕ → List ℕ → List ℕ
@@ -44,26 +45,26 @@ lines-answer ls out = run-answer ls (fitting (length out) ls)
 
 -- The row afterwards: the lines that fit in front, the rest as it was; where none fits all of it as it was.
 unfoldable pub lines-row : List (List ℕ) → List ℕ → List ℕ
-lines-row ls out = in-front (joined (fitting (length out) ls)) out
+lines-row ls out = in-front (join (fitting (length out) ls)) out
 
 pub record LinesWritten (ls : List (List ℕ)) (out : List ℕ) (r : Block) (row : List ℕ) : Type 0 where
   pub answer : r ≡ lines-answer ls out
   pub kept : row ≡ lines-row ls out
 
 -- The lines of the result of rows, labels and marks. The marked gates are the roots.
-unfoldable pub told-lines : Network → List ℕ → List ℕ → List (List ℕ)
-told-lines n labels row = result-lines n labels (roots row (size n))
+unfoldable pub drawn-lines : Network → List ℕ → List ℕ → List (List ℕ)
+drawn-lines n labels row = result-lines n labels (roots row (size n))
 
 -- A refusal of the text that the rows spell is handed on; the labels and the marks need a place for each gate.
 unfoldable pub block-answer : ℕ → Reading → List ℕ → List ℕ → List ℕ → Block
 block-answer index (refused k at) labels row out = block.Refused k at
 block-answer index (network n) labels row out =
-    cond (either-short (size n) labels row) (block.Refused 10 0) (lines-answer (drop index (told-lines n labels row)) out)
+    cond (either-short (size n) labels row) (block.Refused 10 0) (lines-answer (drop index (drawn-lines n labels row)) out)
 
 unfoldable pub block-row : ℕ → Reading → List ℕ → List ℕ → List ℕ → List ℕ
 block-row index (refused k at) labels row out = out
 block-row index (network n) labels row out =
-    cond (either-short (size n) labels row) out (lines-row (drop index (told-lines n labels row)) out)
+    cond (either-short (size n) labels row) out (lines-row (drop index (drawn-lines n labels row)) out)
 
 pub record BlockAnswered (index : ℕ) (reading : Reading) (labels row out : List ℕ) (r : Block) (after : List ℕ) : Type 0 where
   pub answer : r ≡ block-answer index reading labels row out
@@ -105,5 +106,5 @@ pub record Begun (ls : List (List ℕ)) (first : ℕ) (out : List ℕ) : Type 0 
 
 -- All that fit stand in front of the row.
 pub record Ran (ls : List (List ℕ)) (out : List ℕ) (r : Block) (row : List ℕ) : Type 0 where
-  pub answer : r ≡ block.Lines (length (fitting (length out) ls)) (length (joined (fitting (length out) ls)))
+  pub answer : r ≡ block.Lines (length (fitting (length out) ls)) (length (join (fitting (length out) ls)))
   pub kept : row ≡ lines-row ls out

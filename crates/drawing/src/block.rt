@@ -12,7 +12,7 @@ ghost use Rattle.network.specs.Rows.{rows-of};
 ghost use Rattle.network.specs.Spelling.{rows-answer};
 ghost use Rattle.network.specs.Writing.{line-at};
 ghost use Rattle.drawing.specs.Drawn.{standing, Ready};
-ghost use Rattle.drawing.specs.Block.{told-lines, refusal-lines, LinesWritten, BlockAnswered, Added, Begun, Ran};
+ghost use Rattle.drawing.specs.Block.{drawn-lines, refusal-lines, LinesWritten, BlockAnswered, Added, Begun, Ran};
 
 // What telling a run of lines answers: how many lines stand in the row and their bytes; or a refusal's number and line.
 pub enum Block {
@@ -59,7 +59,7 @@ fn line_from(
     requires { ⌜ (gates ≤ length (now labels)) × (gates ≤ length (now marks)) × (at ≤ length (now out)) ⌝ }
     ensures { λ r. ⌜ Added
         (line-at index
-        (told-lines (standing capacity hop gates (now (weights .entry)) (now (delays .entry)) (now (counts .entry)) (now (fanins .entry)))
+        (drawn-lines (standing capacity hop gates (now (weights .entry)) (now (delays .entry)) (now (counts .entry)) (now (fanins .entry)))
         (now (labels .entry)) (now (marks .entry))))
         at (now (out .entry)) r (now (out .exit)) ⌝ }
 {
@@ -100,11 +100,11 @@ fn lines_behind(
     requires { ⌜ Ready capacity hop gates (now weights) (now delays) (now counts) (now fanins) ⌝ }
     requires { ⌜ (gates ≤ length (now labels)) × (gates ≤ length (now marks)) ⌝ }
     requires { ⌜ Begun
-        (drop index (told-lines (standing capacity hop gates (now weights) (now delays) (now counts) (now fanins)) (now labels) (now marks)))
+        (drop index (drawn-lines (standing capacity hop gates (now weights) (now delays) (now counts) (now fanins)) (now labels) (now marks)))
         first (now out) ⌝ }
     ensures { λ r. ⌜ Ran
         (drop index
-        (told-lines (standing capacity hop gates (now (weights .entry)) (now (delays .entry)) (now (counts .entry)) (now (fanins .entry)))
+        (drawn-lines (standing capacity hop gates (now (weights .entry)) (now (delays .entry)) (now (counts .entry)) (now (fanins .entry)))
         (now (labels .entry)) (now (marks .entry))))
         (now (out .entry)) r (now (out .exit)) ⌝ }
 {

@@ -6,7 +6,7 @@ use borrow.Author.Needs.{needs}
 use Rattle.model.specs.Network.{Network}
 use Rattle.network.specs.Writing.{LineWritten, line-at}
 use Rattle.drawing.specs.Drawn.{standing}
-use Rattle.drawing.specs.Block.{told-lines}
+use Rattle.drawing.specs.Block.{drawn-lines}
 use Rattle.drawing.proofs.Answered.{told-written}
 use Rattle.drawing.proofs.Blocks.{told-at, not-added, added}
 use Rattle.drawing.proofs.block.line_from.Statement.{statement}
@@ -42,7 +42,7 @@ returns c =
     let a = s .args in
     let n = network s in
     let w = told-written n (a .gates) (a .labels .now) (a .marks .now) (s .pre .0 .size-is) (s .pre .1 .0) (s .pre .1 .1) (c .before .before .before .before .line-in-room .ensures) in
-    not-added (line-at (a .index) (told-lines n (a .labels .now) (a .marks .now))) (a .out .now) (a .at) (s .pre .1 .2)
+    not-added (line-at (a .index) (drawn-lines n (a .labels .now) (a .marks .now))) (a .out .now) (a .at) (s .pre .1 .2)
     (rw told-at at w) (c .enum-told .given .1)
 
 same-length-2 : tie.Need-same-length-2
@@ -54,7 +54,7 @@ returns-2 c =
     let a = s .args in
     let n = network s in
     let w = told-written n (a .gates) (a .labels .now) (a .marks .now) (s .pre .0 .size-is) (s .pre .1 .0) (s .pre .1 .1) (c .before .before .before .before .before .line-in-room .ensures) in
-    added (line-at (a .index) (told-lines n (a .labels .now) (a .marks .now))) (a .out .now) (a .at) (s .pre .1 .2)
+    added (line-at (a .index) (drawn-lines n (a .labels .now) (a .marks .now))) (a .out .now) (a .at) (s .pre .1 .2)
     (rw told-at at w) (c .before .written .given .1)
 
 pub line-from-spec : {M : Type 1} → statement M

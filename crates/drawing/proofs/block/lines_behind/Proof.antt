@@ -8,19 +8,19 @@ use borrow.Author.Needs.{needs}
 use lib.ListN.{length, drop, length-drop}
 use Rattle.model.specs.Network.{Network}
 use Rattle.drawing.specs.Drawn.{standing}
-use Rattle.drawing.specs.Block.{told-lines, fitting}
+use Rattle.drawing.specs.Block.{drawn-lines, fitting}
 use Rattle.drawing.proofs.Fitting.{Running, fitting-few, drop-full, drop-at-line, running-starts, running-room, running-kept, running-more, running-turns, running-ends}
-use Rattle.drawing.proofs.Blocks.{told-full, told-count}
+use Rattle.drawing.proofs.Blocks.{lines-full, lines-count}
 use Rattle.drawing.proofs.block.lines_behind.Statement.{statement}
 use Rattle.drawing.proofs.block.lines_behind.Tie as tie
 
 abbrev Inv-loop : tie.InvT-loop
 Inv-loop index first capacity hop gates weights delays counts fanins labels marks out₀ length₀ at₀ count₀ out bytes at count =
-    Running (drop index (told-lines (standing capacity hop gates weights delays counts fanins) labels marks)) out₀ out bytes at count
+    Running (drop index (drawn-lines (standing capacity hop gates weights delays counts fanins) labels marks)) out₀ out bytes at count
 
 abbrev μ-loop : tie.MeasureT-loop
 μ-loop index first capacity hop gates weights delays counts fanins labels marks out₀ length₀ at₀ count₀ out bytes at count =
-    length (fitting (length out₀) (drop index (told-lines (standing capacity hop gates weights delays counts fanins) labels marks))) - count
+    length (fitting (length out₀) (drop index (drawn-lines (standing capacity hop gates weights delays counts fanins) labels marks))) - count
 
 abbrev start : tie.At-loop Inv-loop μ-loop → tie.Start Inv-loop μ-loop
 start l = l .before .before .before .before .before .before .before .before
@@ -30,7 +30,7 @@ network s = standing (s .args .capacity) (s .args .hop) (s .args .gates) (s .arg
 
 -- the lines of the result
 abbrev lines : tie.Start Inv-loop μ-loop → List (List ℕ)
-lines s = told-lines (network s) (s .args .labels .now) (s .args .marks .now)
+lines s = drawn-lines (network s) (s .args .labels .now) (s .args .marks .now)
 
 -- In the loop a line is left, and no result has more than 1,026.
 left : (t : tie.In-loop Inv-loop μ-loop) → t .before .loop .count < length (fitting (length (start (t .before) .args .out .now)) (drop (start (t .before) .args .index) (lines (start (t .before)))))
@@ -40,7 +40,7 @@ few : (t : tie.In-loop Inv-loop μ-loop) → start (t .before) .args .index + (t
 few t =
     let s = start (t .before) in
     omega
-    (arith, left t, fitting-few (length (s .args .out .now)) (drop (s .args .index) (lines s)), length-drop (s .args .index) (lines s), told-count (network s) (s .args .labels .now) (s .args .marks .now), s .pre .0 .size-is, s .pre .0 .placed .few)
+    (arith, left t, fitting-few (length (s .args .out .now)) (drop (s .args .index) (lines s)), length-drop (s .args .index) (lines s), lines-count (network s) (s .args .labels .now) (s .args .marks .now), s .pre .0 .size-is, s .pre .0 .placed .few)
 
 loop-holds : tie.Need-loop-holds Inv-loop μ-loop
 loop-holds c = running-starts _ _ (c .before .before .before .before .before .before .before .pre .1 .1)
@@ -76,7 +76,7 @@ same-length c = running-kept _ _ (c .before .loop .inv)
 returns : tie.Need-returns Inv-loop μ-loop
 returns c =
     let s = start (c .before) in
-    running-ends _ _ (c .before .loop .inv) (drop-full (s .args .index) (lines s) (told-full (network s) (s .args .labels .now) (s .args .marks .now))) (λ more. omega (arith, c .loop-test .left))
+    running-ends _ _ (c .before .loop .inv) (drop-full (s .args .index) (lines s) (lines-full (network s) (s .args .labels .now) (s .args .marks .now))) (λ more. omega (arith, c .loop-test .left))
 
 pub lines-behind-spec : {M : Type 1} → statement M
 lines-behind-spec =
