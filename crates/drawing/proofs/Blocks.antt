@@ -8,10 +8,8 @@ use native.Mathlib.Omega.{arith}
 use borrow.Author.Tests.{ltb-true, ltb-false, lt-ltb, le-ltb}
 use lib.Dec.{ltb}
 use lib.ListN.{length, take, drop, length-append, length-drop, drop-of-length-le}
-use lib.Seq.{take-all, drop-at, drop-append-add, drop-drop, getD-drop}
-use Rattle.model.specs.Ceilings.{most-gates}
+use lib.Seq.{take-all, drop-at, drop-append-add, drop-drop}
 use Rattle.model.specs.Network.{Network, size}
-use Rattle.model.specs.Drawing.{members}
 use Rattle.model.proofs.Lists.{true-or-false}
 use Rattle.network.specs.Reading.{Reading, refused, network}
 use Rattle.network.specs.Spelling.{spell-line, join, rows-answer}
@@ -24,7 +22,7 @@ use Rattle.drawing.specs.declared.block.Block.{Block}
 use Rattle.drawing.specs.declared.block.Block.the-variants as block
 use Rattle.drawing.specs.declared.Prepared.{Prepared}
 use Rattle.drawing.specs.declared.Prepared.the-variants as prepared
-use Rattle.drawing.specs.Result.{result-lines, result-bytes, label-bytes, cluster-bytes, result-end-bytes, refusal-bytes, delay-from}
+use Rattle.drawing.specs.Result.{result-lines, refusal-bytes}
 use Rattle.drawing.specs.Selection.{roots}
 use Rattle.drawing.specs.Drawn.{told-line, told-answer, told-row, later-lines, LineAnswered}
 use Rattle.drawing.specs.Prepared.{Lent}
@@ -32,19 +30,19 @@ use Rattle.drawing.specs.Block.{fitting, if-fits, run-answer, in-front, 
 use Rattle.drawing.proofs.Demands.{line-length, result-count}
 use Rattle.drawing.proofs.Marks.{roots-few}
 use Rattle.drawing.proofs.LineAt.{first-at, label-at, later-at, cluster-at, end-at}
-use Rattle.drawing.proofs.Fitting.{Full, length-front, among}
+use Rattle.drawing.proofs.Fitting.{Full, length-front, drop-first}
 
 -- a line that was written, or had no room
 
 module _ (line out : List ℕ) {r : Written} {row : List ℕ} (w : LineWritten line out r row) where
-  pub has-room : {bytes : ℕ} → r ≡ written.Line bytes → (length line ≤ length out) × (bytes ≡ length line) × (row ≡ in-front line out)
+  has-room : {bytes : ℕ} → r ≡ written.Line bytes → (length line ≤ length out) × (bytes ≡ length line) × (row ≡ in-front line out)
   unfolding line-answer line-row
   has-room e =
       ⊎-elim (λ t. let same = sym e ∙ (rw t at (w .answer)) in never cc)
       (λ t. let same = sym e ∙ (rw t at (w .answer)) in (ltb-false _ _ t, cc, rw t at (w .kept)))
       (true-or-false (ltb (length out) (length line)))
 
-  pub no-room : {k at : ℕ} → r ≡ written.Refused k at → (length out < length line) × (k ≡ 10) × (at ≡ 0) × (row ≡ out)
+  no-room : {k at : ℕ} → r ≡ written.Refused k at → (length out < length line) × (k ≡ 10) × (at ≡ 0) × (row ≡ out)
   unfolding line-answer line-row
   no-room e =
       ⊎-elim (λ t. let same = sym e ∙ (rw t at (w .answer)) in (ltb-true _ _ t, cc, cc, rw t at (w .kept)))
@@ -120,7 +118,7 @@ front-twice : (bytes more out : List ℕ) → in-front (bytes ++ more) (in-front
 front-twice bytes more out = rw (length-append, drop-append-add, drop-drop)
 
 module _ (ls : List (List ℕ)) (out : List ℕ) {r : Written} {row : List ℕ} (w : LineWritten (line-at 0 ls) out r row) where
-  pub lines-refused : {k at : ℕ} → r ≡ written.Refused k at → LinesWritten ls out (block.Refused 10 0) row
+  lines-refused : {k at : ℕ} → r ≡ written.Refused k at → LinesWritten ls out (block.Refused 10 0) row
   lines-refused e = let h = no-room (line-at 0 ls) out w e in rw (h .3) (none-fits ls out (h .0))
 
   module _ {first : ℕ} (e : r ≡ written.Line first) where
@@ -136,7 +134,7 @@ module _ (ls : List (List ℕ)) (out : List ℕ) {r : Written} {row : List ℕ} 
     same-first : line-at 0 (fitting (length row) ls) ≡ line-at 0 ls
     same-first = first-fits ls (length row) (omega (arith, same-length, fits))
 
-    pub lines-begun : Begun ls first row
+    lines-begun : Begun ls first row
     lines-begun =
         record {
           many = has-room (line-at 0 ls) out w e .1 ∙ sym (ap length same-first);
@@ -147,7 +145,7 @@ module _ (ls : List (List ℕ)) (out : List ℕ) {r : Written} {row : List ℕ} 
               (sym (ap (drop (length (line-at 0 ls))) row-is ∙ drop-at (line-at 0 ls) (drop (length (line-at 0 ls)) out) (length (line-at 0 ls)) refl)));
         }
 
-    pub lines-ran : {b : Block} {after : List ℕ} → Ran ls row b after → LinesWritten ls out b after
+    lines-ran : {b : Block} {after : List ℕ} → Ran ls row b after → LinesWritten ls out b after
     unfolding lines-answer lines-row
     lines-ran ran =
         let fit = fitting (length out) ls in
@@ -219,13 +217,10 @@ module _ (n : Network) (labels row : List ℕ) where
   told-at index = refl
 
   told-first : (index : ℕ) → told-line index n labels row ≡ line-at 0 (drop index (drawn-lines n labels row))
-  unfolding line-at
-  told-first index =
-      let here : index + 0 ≡ index = omega arith in
-      rw getD-drop (rw here (told-at index))
+  told-first index = told-at index ∙ sym (drop-first index (drawn-lines n labels row))
 
   -- a run of lines where labels and marks have room, and where not
-  pub block-made : {index : ℕ} {out : List ℕ} {b : Block} {after : List ℕ} → either-short (size n) labels row ≡ false
+  block-made : {index : ℕ} {out : List ℕ} {b : Block} {after : List ℕ} → either-short (size n) labels row ≡ false
       → LinesWritten (drop index (drawn-lines n labels row)) out b after
       → BlockAnswered index (network n) labels row out b after
   unfolding block-answer block-row

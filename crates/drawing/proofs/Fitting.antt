@@ -2,36 +2,33 @@
 use Prim.Native.Nat.{ℕ, zero, suc, _+_, _-_, _≤_, _<_}
 use mathlib.Core.Path.{_≡_, refl, sym, _∙_, ap}
 use mathlib.Core.Logic.{⊎-elim}
-use mathlib.Core.Bool.{true, false, cond}
 use mathlib.Core.List.{List, [], _∷_, _++_, append-nil, append-assoc}
-use native.Mathlib.Numerals.{add-one}
 use native.Mathlib.Omega.{arith}
 use borrow.Author.Tests.{ltb-true, ltb-false}
 use lib.Dec.{ltb}
-use lib.ListN.{length, take, drop, length-append, length-take, length-drop, List·getD-eq-default}
+use lib.ListN.{length, take, drop, length-append, length-drop, List·getD-eq-default}
 use lib.Seq.{take-all, take-at, drop-append-add, drop-drop, getD-drop}
 use Rattle.model.proofs.Lists.{true-or-false}
 use Rattle.network.specs.Spelling.{join}
 use Rattle.network.specs.Writing.{line-at}
-use Rattle.drawing.specs.declared.block.Block.{Block}
 use Rattle.drawing.specs.declared.block.Block.the-variants.{Lines}
 use Rattle.drawing.specs.Block.{fitting, LongestRun, if-fits, in-front, lines-row, Added, Begun, Ran}
 
 -- what is before a line, and the line
 
-pub join-more : (k : ℕ) (ls : List (List ℕ)) → join (take (suc k) ls) ≡ join (take k ls) ++ line-at k ls
+join-more : (k : ℕ) (ls : List (List ℕ)) → join (take (suc k) ls) ≡ join (take k ls) ++ line-at k ls
 unfolding join line-at
 join-more zero [] = refl
 join-more (suc k) [] = refl
 join-more zero (l ∷ ls) = append-nil l
 join-more (suc k) (l ∷ ls) = rw (join-more k ls, append-assoc)
 
-pub past-last : (k : ℕ) (ls : List (List ℕ)) → length ls ≤ k → line-at k ls ≡ []
+past-last : (k : ℕ) (ls : List (List ℕ)) → length ls ≤ k → line-at k ls ≡ []
 unfolding line-at
 past-last k ls h = List·getD-eq-default ls [] h
 
 -- a line with bytes is one of the lines
-pub among : (k : ℕ) (ls : List (List ℕ)) → 0 < length (line-at k ls) → k < length ls
+among : (k : ℕ) (ls : List (List ℕ)) → 0 < length (line-at k ls) → k < length ls
 among k ls h =
     ⊎-elim (λ t. ltb-true _ _ t)
     (λ t. absurd (omega (arith, ap length (past-last k ls (ltb-false _ _ t)))))
@@ -45,7 +42,7 @@ fitting-few room [] = omega arith
 fitting-few room (l ∷ ls) =
     ⊎-elim (λ t. rw t (omega arith)) (λ t. rw t (omega (arith, fitting-few (room - length l) ls))) (true-or-false (ltb room (length l)))
 
-pub fitting-room : (k room : ℕ) (ls : List (List ℕ)) → length (join (take k (fitting room ls))) ≤ room
+fitting-room : (k room : ℕ) (ls : List (List ℕ)) → length (join (take k (fitting room ls))) ≤ room
 unfolding fitting join
 fitting-room zero room ls = omega arith
 fitting-room (suc k) room [] = omega arith
@@ -88,7 +85,7 @@ unfolding if-fits
 none room = ⊎-elim (λ t. rw t) (λ t. rw t) (true-or-false (ltb room 0))
 
 -- Behind so many lines of the run the next one is in it exactly when it has room there.
-pub fitting-at : (k room : ℕ) (ls : List (List ℕ)) → k ≤ length (fitting room ls)
+fitting-at : (k room : ℕ) (ls : List (List ℕ)) → k ≤ length (fitting room ls)
     → line-at k (fitting room ls) ≡ if-fits (room - length (join (take k (fitting room ls)))) (line-at k ls)
 unfolding fitting join line-at if-fits
 fitting-at k room [] h = sym (none (room - length (join (take k []))))
@@ -110,7 +107,7 @@ fitting-at (suc k) room (l ∷ ls) h =
 abbrev pub Full : List (List ℕ) → Type 0
 Full ls = (k : ℕ) → k < length ls → 0 < length (line-at k ls)
 
-pub fitting-full : (room : ℕ) (ls : List (List ℕ)) → Full ls → Full (fitting room ls)
+fitting-full : (room : ℕ) (ls : List (List ℕ)) → Full ls → Full (fitting room ls)
 unfolding fitting line-at
 fitting-full room [] full k h = absurd (omega arith)
 fitting-full room (l ∷ ls) full zero h =
@@ -127,6 +124,9 @@ drop-full index ls full k h = rw getD-drop (full (index + k) (omega (arith, leng
 pub drop-at-line : (index k : ℕ) (ls : List (List ℕ)) → line-at k (drop index ls) ≡ line-at (index + k) ls
 unfolding line-at
 drop-at-line index k ls = getD-drop index ls k []
+
+pub drop-first : (index : ℕ) (ls : List (List ℕ)) → line-at 0 (drop index ls) ≡ line-at index ls
+drop-first index ls = let here : index + 0 ≡ index = omega arith in rw (drop-at-line, here)
 
 -- a row with bytes in front, and more behind them
 

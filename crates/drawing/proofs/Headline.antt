@@ -1,5 +1,5 @@
 -- The promise over a whole text holds.
-use Prim.Native.Nat.{ℕ, zero, suc, _+_, _*_, _≤_, _<_}
+use Prim.Native.Nat.{ℕ, zero, suc, _*_, _≤_, _<_}
 use mathlib.Core.Path.{_≡_, refl, sym, _∙_, ap}
 use mathlib.Core.Bool.{false}
 use mathlib.Core.List.{List, [], _∷_, _++_, List·Memᴰ, List·Memᴰ·head, List·Memᴰ·tail}
@@ -37,7 +37,7 @@ use Rattle.drawing.proofs.Selected.{length-marks, drawn-roots}
 use Rattle.drawing.proofs.SameLabels.{lines-same}
 use Rattle.drawing.proofs.Answered.{told-written}
 use Rattle.drawing.proofs.Preparing.{filled-answer, length-labelled, labels-same}
-use Rattle.drawing.proofs.Fitting.{drop-at-line}
+use Rattle.drawing.proofs.Fitting.{drop-first}
 use Rattle.drawing.proofs.Blocks.{told-at, some-fit, one-fits, block-written}
 
 -- ample rows have room for a network of any text
@@ -78,9 +78,7 @@ written-run : (ls : List (List ℕ)) (index : ℕ) {out : List ℕ} {r : Block} 
     (r ≡ Lines (length run) (length (join run))) × (row ≡ in-front (join run) out) × (index < length ls → 0 < length run)
 unfolding lines-answer lines-row
 written-run ls index {out} w h =
-    let here : index + 0 ≡ index = omega arith in
-    let first : line-at 0 (drop index ls) ≡ line-at index ls = drop-at-line index 0 ls ∙ ap (λ (i : ℕ). line-at i ls) here in
-    let fits : length (line-at 0 (drop index ls)) ≤ length out = omega (arith, ap length first) in (
+    let fits : length (line-at 0 (drop index ls)) ≤ length out = omega (arith, ap length (drop-first index ls)) in (
       w .answer ∙ some-fit (drop index ls) (length out) fits,
       w .kept,
       λ more. one-fits (drop index ls) (length out) fits (omega (arith, length-drop index ls)),

@@ -1,7 +1,7 @@
 // Selection, and the result a line at a time. A network stands in rows, as the network crate has them, with its labels in
 // a row of their own. Selecting marks the roots of the drawn clusters in a row with a place for each gate; from rows,
 // labels and marks each line of the result is written when it is asked for. Over a whole text, `prepare` reads, labels and
-// selects, and `tell` writes the lines of its result, or the one line of its refusal.
+// selects, `tell` writes a line of its result, or the one line of its refusal, and `tell_lines` as many as have room.
 use crate::block::Block;
 use network::Read;
 use network::reading;

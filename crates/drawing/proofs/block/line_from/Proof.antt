@@ -1,10 +1,7 @@
 -- `drawing::block::line_from` meets its contract: a line written into the part of the row from a place on.
-use Prim.Native.Nat.{ℕ}
-use mathlib.Core.List.{List}
-use native.Mathlib.Omega.{arith}
 use borrow.Author.Needs.{needs}
 use Rattle.model.specs.Network.{Network}
-use Rattle.network.specs.Writing.{LineWritten, line-at}
+use Rattle.network.specs.Writing.{line-at}
 use Rattle.drawing.specs.Drawn.{standing}
 use Rattle.drawing.specs.Block.{drawn-lines}
 use Rattle.drawing.proofs.Answered.{told-written}

@@ -1,5 +1,4 @@
 -- `drawing::block::lines_in_room` meets its contract: what the first line answers decides, and the others go behind it.
-use Prim.Native.Nat.{ℕ}
 use native.Mathlib.Omega.{arith}
 use borrow.Author.Needs.{needs}
 use Rattle.model.specs.Network.{Network}
