@@ -1,15 +1,17 @@
-// Reads one network's text from standard input and prints its result, or the one frame of its refusal, line by line.
+// Reads one network's text from standard input and prints its result, or the one frame of its refusal, a block of lines at a
+// time.
 // What every text answers is decided in the crates below; here is the reading, the printing and the room for both.
 use drawing::Prepared;
-use network::writing::Written;
+use drawing::block::Block;
 use units::FanInCount;
 use units::GateNumber;
 
 // One byte more than a text may have, so that a longer one is seen to be longer.
 const TEXT: usize = 24_577;
 
-// The longest line of a result: a cluster of 512 members.
-const LINE: usize = 2_059;
+// A block of lines. The longest line has 2,059 bytes, so that a block has a line wherever one is left; the rows are looked at
+// once a block.
+const BLOCK: usize = 8_192;
 
 // A result of 512 gates has at most so many lines: one, a label a gate, a cluster a gate, one.
 const LINES: usize = 1_026;
@@ -25,8 +27,8 @@ fn show(out: &[u8], length: usize) -> bool {
     io::write_all(1, &out[..length])
 }
 
-// One line printed; whether there was one.
-fn print_line(
+// The lines from that index on that have room in a block, printed; how many.
+fn print_block(
     prepared: Prepared,
     index: usize,
     weights: &[u16],
@@ -35,9 +37,9 @@ fn print_line(
     fanins: &[u16],
     labels: &[u32],
     marks: &[u8],
-) -> bool {
-    let mut out = [0; LINE];
-    let written = drawing::tell(
+) -> usize {
+    let mut out = [0; BLOCK];
+    let told = drawing::tell_lines(
         prepared,
         index,
         weights,
@@ -48,10 +50,13 @@ fn print_line(
         marks,
         &mut out,
     );
-    let Written::Line(length) = written else {
-        return false;
+    let Block::Lines { count, length } = told else {
+        return 0;
     };
-    show(&out, length)
+    if !show(&out, length) {
+        return 0;
+    }
+    count
 }
 
 // Every line printed, from the first to the last.
@@ -64,8 +69,9 @@ fn print(
     labels: &[u32],
     marks: &[u8],
 ) {
-    for index in 0..LINES {
-        if !print_line(
+    let mut index = 0;
+    while index < LINES {
+        let count = print_block(
             prepared,
             index,
             weights,
@@ -74,9 +80,15 @@ fn print(
             fanins,
             labels,
             marks,
-        ) {
+        );
+        if count == 0 {
             return;
         }
+        if LINES - index < count {
+            // never: no result has more lines
+            return;
+        }
+        index += count;
     }
 }
 

@@ -1,10 +1,14 @@
--- P1 to P13 of document 01 as one table, from the text to what it answers: antt computes every row.
+-- P1 to P13 of document 01 as one table, from the text to what it answers: antt computes every row. And blocks of lines.
 use Prim.Native.Nat.{ℕ, suc}
 use mathlib.Core.Path.{_≡_, refl}
 use mathlib.Core.List.{List, [], _∷_, _++_, map}
-use lib.ListN.{length}
+use lib.ListN.{length, drop, replicate}
 use Rattle.network.specs.Spelling.{spell-line, join}
-use Rattle.drawing.specs.Result.{answer-lines}
+use Rattle.drawing.specs.declared.block.Block.the-variants as block
+use Rattle.drawing.specs.declared.Prepared.the-variants as prepared
+use Rattle.drawing.specs.Result.{refusal-bytes, answer-lines}
+use Rattle.drawing.specs.Prepared.{Lent}
+use Rattle.drawing.specs.Block.{fitting, run-answer, lines-answer, tell-lines-answer}
 
 -- frames, byte by byte, as lines
 unfoldable pub frames : List (List ℕ) → List (List ℕ)
@@ -124,3 +128,23 @@ rows =
 pub table : map (λ r. answer-lines (text (r .input))) rows ≡ map (λ r. frames (r .answers)) rows
 unfolding rows answer-lines text frames
 table = refl
+
+-- The blocks of P1, whose ten lines have 15 bytes each, but the last three 19, 23 and 7: two lines in 40 places, none in 14,
+-- the last two in 30 and not in 29, and none past the last.
+pub blocks :
+    (lines-answer (answer-lines (text (A 3 4))) (replicate 40 0) ≡ block.Lines 2 30)
+    × (lines-answer (answer-lines (text (A 3 4))) (replicate 14 0) ≡ block.Refused 10 0)
+    × (lines-answer (drop 8 (answer-lines (text (A 3 4)))) (replicate 30 0) ≡ block.Lines 2 30)
+    × (lines-answer (drop 8 (answer-lines (text (A 3 4)))) (replicate 29 0) ≡ block.Lines 1 23)
+    × (lines-answer (drop 10 (answer-lines (text (A 3 4)))) [] ≡ block.Lines 0 0)
+unfolding lines-answer run-answer fitting answer-lines text A join
+blocks = (refl, refl, refl, refl, refl)
+
+-- a refusal has its one line, of 9 bytes, in the first block
+pub refusal-blocks :
+    (l : Lent)
+    → (tell-lines-answer (prepared.Refused 3 1) 0 l (replicate 9 0) ≡ block.Lines 1 9)
+    × (tell-lines-answer (prepared.Refused 3 1) 0 l (replicate 8 0) ≡ block.Refused 10 0)
+    × (tell-lines-answer (prepared.Refused 3 1) 1 l (replicate 9 0) ≡ block.Lines 0 0)
+unfolding tell-lines-answer lines-answer run-answer fitting join spell-line refusal-bytes
+refusal-blocks l = (refl, refl, refl)

@@ -5,7 +5,7 @@ use mathlib.Core.Bool.{false}
 use mathlib.Core.List.{List, [], _∷_, _++_, List·Memᴰ, List·Memᴰ·head, List·Memᴰ·tail}
 use native.Mathlib.Omega.{arith}
 use borrow.Author.Tests.{le-ltb}
-use lib.ListN.{length, drop, length-append}
+use lib.ListN.{length, drop, length-append, length-drop}
 use Rattle.model.specs.Ceilings.{most-gates}
 use Rattle.model.specs.Network.{Network, size}
 use Rattle.model.specs.Label.{labels as labels-of}
@@ -13,7 +13,7 @@ use Rattle.model.specs.Drawing.{marks as marks-of, drawn}
 use Rattle.model.proofs.Drawn.{drawn-known}
 use Rattle.network.specs.Reading.{Reading, refused, network, reading}
 use Rattle.network.specs.Rows.{too-short, fill}
-use Rattle.network.specs.Spelling.{spell-line, rows-answer}
+use Rattle.network.specs.Spelling.{spell-line, join, rows-answer}
 use Rattle.network.specs.Says.{Says, too-long, faulty-line, no-end, too-heavy}
 use Rattle.network.specs.Writing.{line-at, line-answer, line-row, LineWritten}
 use Rattle.network.specs.declared.writing.Written.{Written}
@@ -22,18 +22,23 @@ use Rattle.network.proofs.Tests.{never}
 use Rattle.network.proofs.Table.{reading-exactly}
 use Rattle.network.proofs.AcceptedNetwork.{accepted-well-formed, accepted-within-ceilings}
 use Rattle.labelling.specs.Members.{written}
+use Rattle.drawing.specs.declared.block.Block.{Block}
+use Rattle.drawing.specs.declared.block.Block.the-variants.{Lines}
 use Rattle.drawing.specs.declared.Prepared.{Prepared}
 use Rattle.drawing.specs.declared.Prepared.the-variants as prepared
 use Rattle.drawing.specs.Result.{answer-lines, lines-told, network-result, result-lines, refusal-bytes}
 use Rattle.drawing.specs.Demands.{most-line}
 use Rattle.drawing.specs.Drawn.{told-line}
 use Rattle.drawing.specs.Prepared.{Lent, any-short, prepared-answer, prepared-rows, prepared-lent, refusal-line, tell-answer, tell-row, Told}
+use Rattle.drawing.specs.Block.{fitting, in-front, lines-answer, lines-row, LinesWritten, drawn-lines, tell-lines-answer, tell-lines-row, ToldLines}
 use Rattle.drawing.specs.Headline.{Ample, Answers, Headline}
 use Rattle.drawing.proofs.Demands.{given-between, finished, faithful}
 use Rattle.drawing.proofs.Selected.{length-marks, drawn-roots}
 use Rattle.drawing.proofs.SameLabels.{lines-same}
 use Rattle.drawing.proofs.Answered.{told-written}
 use Rattle.drawing.proofs.Preparing.{filled-answer, length-labelled, labels-same}
+use Rattle.drawing.proofs.Fitting.{drop-first}
+use Rattle.drawing.proofs.Blocks.{told-at, some-fit, one-fits, block-written}
 
 -- ample rows have room for a network of any text
 
@@ -66,6 +71,19 @@ written-whole : {line out : List ℕ} {r : Written} {row : List ℕ} → LineWri
 unfolding line-answer line-row
 written-whole {line} {out} w h = let t = le-ltb (length out) (length line) h in (rw t at (w .answer), rw t at (w .kept))
 
+-- A first line that has room: the block is not refused, and where a line is left it has one.
+written-run : (ls : List (List ℕ)) (index : ℕ) {out : List ℕ} {r : Block} {row : List ℕ} → LinesWritten (drop index ls) out r row
+    → length (line-at index ls) ≤ length out
+    → let run = fitting (length out) (drop index ls) in
+    (r ≡ Lines (length run) (length (join run))) × (row ≡ in-front (join run) out) × (index < length ls → 0 < length run)
+unfolding lines-answer lines-row
+written-run ls index {out} w h =
+    let fits : length (line-at 0 (drop index ls)) ≤ length out = omega (arith, ap length (drop-first index ls)) in (
+      w .answer ∙ some-fit (drop index ls) (length out) fits,
+      w .kept,
+      λ more. one-fits (drop index ls) (length out) fits (omega (arith, length-drop index ls)),
+    )
+
 -- the lines of a text that is refused
 refused-lines : (text : List ℕ) (k at : ℕ) → reading text ≡ refused k at → answer-lines text ≡ spell-line (refusal-bytes k at) ∷ []
 unfolding answer-lines lines-told
@@ -77,6 +95,15 @@ refusal-told : (text : List ℕ) {k at : ℕ} {p : Prepared} {index : ℕ} {l : 
     → LineWritten (line-at index (answer-lines text)) out r row
 unfolding tell-answer tell-row refusal-line
 refusal-told text {k} {at} e q t =
+    let lines = refused-lines text k at e in
+    rw lines (record { answer = rw q at (t .answer); kept = rw q at (t .kept) })
+
+refusal-block : (text : List ℕ) {k at : ℕ} {p : Prepared} {index : ℕ} {l : Lent} {out : List ℕ} {r : Block} {row : List ℕ} → reading text ≡ refused k at
+    → p ≡ prepared.Refused k at
+    → ToldLines p index l out r row
+    → LinesWritten (drop index (answer-lines text)) out r row
+unfolding tell-lines-answer tell-lines-row
+refusal-block text {k} {at} e q t =
     let lines = refused-lines text k at e in
     rw lines (record { answer = rw q at (t .answer); kept = rw q at (t .kept) })
 
@@ -94,17 +121,25 @@ module _ (text : List ℕ) (n : Network) (before : Lent) (e : reading text ≡ n
   own-lines : result-lines n (labels-of n) (drawn n (labels-of n)) ≡ answer-lines text
   own-lines = unfold network-result in sym (faithful text n e .frames)
 
-  told-lines : (index : ℕ) → told-line index n labels marks ≡ line-at index (answer-lines text)
-  unfolding told-line
-  told-lines index =
-      ap (line-at index)
-      (ap (result-lines n labels) (drawn-roots n (labels-of n) (size n) (drop (size n) (before .marks)) refl)
+  prepared-lines : drawn-lines n labels marks ≡ answer-lines text
+  unfolding drawn-lines
+  prepared-lines =
+      ap (result-lines n labels) (drawn-roots n (labels-of n) (size n) (drop (size n) (before .marks)) refl)
       ∙ lines-same n labels (labels-of n) (labels-same n (before .labels)) (drawn n (labels-of n))
       (drawn-known n (accepted-well-formed text n e) (labels-of n))
-      ∙ own-lines)
+      ∙ own-lines
+
+  told-lines : (index : ℕ) → told-line index n labels marks ≡ line-at index (answer-lines text)
+  told-lines index = told-at n labels marks index ∙ ap (line-at index) prepared-lines
 
   rows-answered : rows-answer (n .capacity) (n .hop) (size n) (fill 0 (n .gates) (before .rows)) ≡ network n
   rows-answered = filled-answer text n (before .rows) e (ample-rows (size n) before a few)
+
+  labels-room : size n ≤ length labels
+  labels-room = omega (arith, length-labelled n (before .labels) (omega (arith, a .labels, few)), a .labels, few)
+
+  marks-room : size n ≤ length marks
+  marks-room = omega (arith, length-append (marks-of n (labels-of n)) (drop (size n) (before .marks)), length-marks n (labels-of n))
 
   result-told : {index : ℕ} {p : Prepared} {l : Lent} {out : List ℕ} {r : Written} {row : List ℕ} → p ≡ prepared.Result (size n) (n .capacity) (n .hop)
       → l ≡ prepared-rows n before
@@ -113,9 +148,17 @@ module _ (text : List ℕ) (n : Network) (before : Lent) (e : reading text ≡ n
   unfolding tell-answer tell-row prepared-rows
   result-told {index} q k t =
       rw (← told-lines index)
-      (told-written n (size n) labels marks refl
-      (omega (arith, length-labelled n (before .labels) (omega (arith, a .labels, few)), a .labels, few))
-      (omega (arith, length-append (marks-of n (labels-of n)) (drop (size n) (before .marks)), length-marks n (labels-of n)))
+      (told-written n (size n) labels marks refl labels-room marks-room
+      (record { answer = rw (q, k, rows-answered) at (t .answer); kept = rw (q, k, rows-answered) at (t .kept) }))
+
+  result-block : {index : ℕ} {p : Prepared} {l : Lent} {out : List ℕ} {r : Block} {row : List ℕ} → p ≡ prepared.Result (size n) (n .capacity) (n .hop)
+      → l ≡ prepared-rows n before
+      → ToldLines p index l out r row
+      → LinesWritten (drop index (answer-lines text)) out r row
+  unfolding tell-lines-answer tell-lines-row prepared-rows
+  result-block q k t =
+      rw (← prepared-lines)
+      (block-written n labels marks labels-room marks-room
       (record { answer = rw (q, k, rows-answered) at (t .answer); kept = rw (q, k, rows-answered) at (t .kept) }))
 
 -- A text is refused, and its one line is told; or it is a network's, for which ample rows have room, and its result is told.
@@ -124,22 +167,24 @@ headline text before after p a into = go (reading text) refl
   where
     all : ((index : ℕ) (out : List ℕ) (r : Written) (row : List ℕ) → Told p index after out r row
         → LineWritten (line-at index (answer-lines text)) out r row)
+        → ((index : ℕ) (out : List ℕ) (r : Block) (row : List ℕ) → ToldLines p index after out r row
+        → LinesWritten (drop index (answer-lines text)) out r row)
         → ((at : ℕ) → p ≡ prepared.Refused 10 at → ⊥)
         → Answers text p after
-    all lines never-10 =
+    all line lines never-10 =
+        let short = line-short (answer-lines text) most-line (finished text (before .rows) .short) in
         record {
-          line = lines;
-          room =
-              λ index out r row t h.
-              let short = line-short (answer-lines text) most-line (finished text (before .rows) .short) index in
-              written-whole (lines index out r row t) (omega arith);
+          line = line;
+          room = λ index out r row t h. written-whole (line index out r row t) (omega (arith, short index));
+          lines = lines;
+          block-room = λ index out r row t h. written-run (answer-lines text) index (lines index out r row t) (omega (arith, short index));
           never-10 = never-10;
         }
 
     go : (w : Reading) → reading text ≡ w → Answers text p after
     go (refused k at) q =
         let told : p ≡ prepared.Refused k at = into .answer ∙ unfold prepared-answer in rw q in
-        all (λ index out r row t. refusal-told text q told t)
+        all (λ index out r row t. refusal-told text q told t) (λ index out r row t. refusal-block text q told t)
         (λ line ten.
         let few = below-10 (reading-exactly text .number k at .0 q) in
         let same : k ≡ 10 = cc in
@@ -148,4 +193,5 @@ headline text before after p a into = go (reading text) refl
         let none = none-short (size n) before a (few text n before q a) in
         let told : p ≡ prepared.Result (size n) (n .capacity) (n .hop) = into .answer ∙ unfold prepared-answer in rw (q, none) in
         let left : after ≡ prepared-rows n before = into .lent ∙ unfold prepared-lent in rw (q, none) in
-        all (λ index out r row t. result-told text n before q a told left t) (λ line ten. never cc)
+        all (λ index out r row t. result-told text n before q a told left t) (λ index out r row t. result-block text n before q a told left t)
+        (λ line ten. never cc)

@@ -8,5 +8,7 @@ pub mod LineAt
 pub mod SameLabels
 pub mod Answered
 pub mod Preparing
+pub mod Fitting
+pub mod Blocks
 pub mod Headline
 pub mod Unique

@@ -9,6 +9,7 @@ use Rattle.drawing.proofs.result.line.Reads as line
 use Rattle.drawing.proofs.result.refusal_line.Reads as refusal-line
 use Rattle.drawing.proofs.prepare.Reads as prepare
 use Rattle.drawing.proofs.tell.Reads as tell
+use Rattle.drawing.proofs.tell_lines.Reads as tell-lines
 
 -- What equals the same thing is equal.
 same : {X : Type 0} {r s x : X} → r ≡ x → s ≡ x → r ≡ s
@@ -36,3 +37,6 @@ prepare-unique κs args r s exit exit′ p q = (same (p .answer) (q .answer), sa
 -- The row that is written is the last of nine parameters.
 pub tell-unique : OneOutcome tell.Learnt (λ κs exit. now (exit .1 .1 .1 .1 .1 .1 .1 .1 .0))
 tell-unique κs args r s exit exit′ p q = (same (p .answer) (q .answer), same (p .kept) (q .kept))
+
+pub tell-lines-unique : OneOutcome tell-lines.Learnt (λ κs exit. now (exit .1 .1 .1 .1 .1 .1 .1 .1 .0))
+tell-lines-unique κs args r s exit exit′ p q = (same (p .answer) (q .answer), same (p .kept) (q .kept))

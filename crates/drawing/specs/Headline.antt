@@ -1,18 +1,22 @@
--- The promise over a whole text, in one place: whatever `prepare` and then `tell` do by their contracts, the lines told are
--- exactly those that the text answers, which are the model's result of the network that it spells, or its one refusal.
-use Prim.Native.Nat.{ℕ, _*_, _≤_}
+-- The promise over a whole text, in one place: whatever `prepare` and then `tell` or `tell_lines` do by their contracts, the
+-- lines told are exactly those that the text answers, which are the model's result of the network that it spells, or its one refusal.
+use Prim.Native.Nat.{ℕ, _*_, _≤_, _<_}
 use mathlib.Core.Path.{_≡_}
 use mathlib.Core.List.{List, _++_}
 use lib.ListN.{length, drop}
 use Rattle.model.specs.Ceilings.{most-gates, most-fanins}
+use Rattle.network.specs.Spelling.{join}
 use Rattle.network.specs.Writing.{line-at, LineWritten}
 use Rattle.network.specs.declared.writing.Written.{Written}
 use Rattle.network.specs.declared.writing.Written.the-variants.{Line}
+use Rattle.drawing.specs.declared.block.Block.{Block}
+use Rattle.drawing.specs.declared.block.Block.the-variants.{Lines}
 use Rattle.drawing.specs.declared.Prepared.{Prepared}
 use Rattle.drawing.specs.declared.Prepared.the-variants.{Refused}
 use Rattle.drawing.specs.Result.{answer-lines}
 use Rattle.drawing.specs.Demands.{most-line}
 use Rattle.drawing.specs.Prepared.{Lent, PreparedInto, Told}
+use Rattle.drawing.specs.Block.{fitting, in-front, LinesWritten, ToldLines}
 
 -- Rows with room for the largest network: 512 places, and 4,096 for the fan-ins.
 pub record Ample (l : Lent) : Type 0 where
@@ -34,6 +38,15 @@ pub record Answers (text : List ℕ) (p : Prepared) (l : Lent) : Type 0 where
       (index : ℕ) (out : List ℕ) (r : Written) (row : List ℕ) → Told p index l out r row → most-line ≤ length out
       → (r ≡ Line (length (line-at index (answer-lines text))))
       × (row ≡ line-at index (answer-lines text) ++ drop (length (line-at index (answer-lines text))) out)
+  -- a block has the text's own lines from its index on, as many whole ones as have room
+  pub lines :
+      (index : ℕ) (out : List ℕ) (r : Block) (row : List ℕ) → ToldLines p index l out r row
+      → LinesWritten (drop index (answer-lines text)) out r row
+  -- with room for the longest line it is never refused, and has a line wherever one is left
+  pub block-room :
+      (index : ℕ) (out : List ℕ) (r : Block) (row : List ℕ) → ToldLines p index l out r row → most-line ≤ length out
+      → let run = fitting (length out) (drop index (answer-lines text)) in
+      (r ≡ Lines (length run) (length (join run))) × (row ≡ in-front (join run) out) × (index < length (answer-lines text) → 0 < length run)
   -- "which suffice for every text, so that it never answers 10"
   pub never-10 : (at : ℕ) → p ≡ Refused 10 at → ⊥
 

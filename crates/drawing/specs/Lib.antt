@@ -4,4 +4,5 @@ pub mod Demands
 pub mod Selection
 pub mod Drawn
 pub mod Prepared
+pub mod Block
 pub mod Headline

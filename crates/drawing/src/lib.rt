@@ -1,12 +1,15 @@
 // Selection, and the result a line at a time. A network stands in rows, as the network crate has them, with its labels in
 // a row of their own. Selecting marks the roots of the drawn clusters in a row with a place for each gate; from rows,
 // labels and marks each line of the result is written when it is asked for. Over a whole text, `prepare` reads, labels and
-// selects, and `tell` writes the lines of its result, or the one line of its refusal.
+// selects, `tell` writes a line of its result, or the one line of its refusal, and `tell_lines` as many as have room.
+use crate::block::Block;
 use network::Read;
 use network::reading;
 use network::writing::Written;
 ghost use Rattle.drawing.specs.Prepared.{lent-of, PreparedInto, Told};
+ghost use Rattle.drawing.specs.Block.{ToldLines};
 
+pub mod block;
 pub mod result;
 pub mod selection;
 mod text;
@@ -111,6 +114,45 @@ pub fn tell(
             capacity,
             hop,
         } => result::line(
+            index,
+            capacity,
+            hop,
+            gates,
+            weights,
+            delays,
+            counts,
+            fanins,
+            labels,
+            marks,
+            out,
+        ),
+    }
+}
+
+// As many whole lines of what a text came to as the row has room for, from the line of that index on; past the last line
+// none. A row too short for the first of them answers 10 and is left as it was.
+pub fn tell_lines(
+    prepared: Prepared,
+    index: usize,
+    weights: &[u16],
+    delays: &[u16],
+    counts: &[u8],
+    fanins: &[u16],
+    labels: &[u32],
+    marks: &[u8],
+    out: &mut [u8],
+) -> Block
+    ensures { λ r. ⌜ ToldLines prepared index
+        (lent-of (now (weights .entry)) (now (delays .entry)) (now (counts .entry)) (now (fanins .entry)) (now (labels .entry)) (now (marks .entry)))
+        (now (out .entry)) r (now (out .exit)) ⌝ }
+{
+    match prepared {
+        Prepared::Refused { number, line } => block::refusal_lines(index, number, line, out),
+        Prepared::Result {
+            gates,
+            capacity,
+            hop,
+        } => block::lines(
             index,
             capacity,
             hop,

@@ -197,7 +197,7 @@ fn later_line(
 }
 
 // The line of that index of a network that is known to stand in the rows.
-fn line_in_room(
+pub(crate) fn line_in_room(
     index: usize,
     capacity: u32,
     hop: u16,

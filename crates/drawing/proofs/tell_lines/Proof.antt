@@ -1,0 +1,42 @@
+-- `drawing::tell_lines` meets its contract: the one line of a refusal, or lines of the result.
+use borrow.Author.Needs.{needs}
+use Rattle.drawing.proofs.Blocks.{lines-of-refusal, lines-of-result}
+use Rattle.drawing.proofs.tell_lines.Statement.{statement}
+use Rattle.drawing.proofs.tell_lines.Tie as tie
+
+enum-known-prepared : tie.Need-enum-known-prepared
+enum-known-prepared c = search needs
+
+refusal-lines-requires : tie.Need-refusal-lines-requires
+refusal-lines-requires c κs = search needs
+
+enum-known-prepared-2 : tie.Need-enum-known-prepared-2
+enum-known-prepared-2 c = search needs
+
+lines-requires : tie.Need-lines-requires
+lines-requires c κs = search needs
+
+same-length : tie.Need-same-length
+same-length c = search needs
+
+returns : tie.Need-returns
+returns c = lines-of-refusal (c .before .before .before .before .before .prepared .given .1) (c .before .before .refusal-lines .ensures)
+
+same-length-2 : tie.Need-same-length-2
+same-length-2 c = search needs
+
+returns-2 : tie.Need-returns-2
+returns-2 c = lines-of-result (c .before .before .before .before .before .prepared2 .given .1) (c .before .before .lines .ensures)
+
+pub tell-lines-spec : {M : Type 1} → statement M
+tell-lines-spec =
+    tie.close
+    (tie.spec
+    enum-known-prepared
+    refusal-lines-requires
+    enum-known-prepared-2
+    lines-requires
+    same-length
+    returns
+    same-length-2
+    returns-2)
