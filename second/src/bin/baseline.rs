@@ -1,7 +1,7 @@
 //! The whole program in plain Rust, for its time from start to end: reads one text from standard input, labels it by
-//! `steps`, draws by a walk for each drawn root, and prints line by line, with another walk for each cluster's line. Like
-//! the proved program it looks at the rows again before each of these, because each proved function answers for any rows.
-//! With the word `lean` it looks once, and writes in blocks.
+//! `steps`, draws by a walk for each drawn root, and prints blocks of lines, with another walk for each cluster's line. Like
+//! the proved program it looks at the rows before it labels, before it draws, before each walk and at the first line; with
+//! the word `lean` it never does.
 
 use std::hint::black_box;
 use std::io::{self, BufWriter, Read, Write};
@@ -13,14 +13,10 @@ use second::{hex, steps};
 fn main() -> io::Result<()> {
     let mut text = Vec::with_capacity(LONGEST_TEXT + 1);
     io::stdin().take(LONGEST_TEXT as u64 + 1).read_to_end(&mut text)?;
-    let lines = io::stdout().lock();
-    if std::env::args().nth(1).as_deref() == Some("lean") {
-        let mut blocks = BufWriter::with_capacity(16_384, lines);
-        answer(&text, true, &mut blocks)?;
-        blocks.flush()
-    } else {
-        answer(&text, false, lines)
-    }
+    let lean = std::env::args().nth(1).as_deref() == Some("lean");
+    let mut blocks = BufWriter::with_capacity(8_192, io::stdout().lock());
+    answer(&text, lean, &mut blocks)?;
+    blocks.flush()
 }
 
 fn answer(text: &[u8], lean: bool, mut out: impl Write) -> io::Result<()> {
@@ -55,12 +51,10 @@ fn result(network: &Network, lean: bool, mut out: impl Write) -> io::Result<()> 
     look();
     line.print(0x11, &[(delay.unwrap_or(0) as usize, 4), (clusters, 2)])?;
     for (gate, &label) in labels[..rows.gates].iter().enumerate() {
-        look();
         line.print(0x12, &[(gate, 2), (label as usize, 4)])?;
     }
     for root in (0..rows.gates).filter(|&root| drawn[root]) {
-        look(); // for the line
-        look(); // for the cluster
+        look();
         let joined = steps::cluster(&rows, &labels, root, &mut local);
         let inside = steps::members(root, joined);
         let members = (0..=root).filter(|&gate| inside[gate]);
@@ -68,7 +62,6 @@ fn result(network: &Network, lean: bool, mut out: impl Write) -> io::Result<()> 
         members.for_each(|member| hex::push(&mut line.text, member, 2));
         line.end()?;
     }
-    look();
     line.print(0x1F, &[(rows.gates, 2)])
 }
 
