@@ -97,14 +97,10 @@ pub fn labels(label: Label, rows: &Rows) -> [u32; MOST_GATES] {
     labels
 }
 
-/// The shortest of several runs.
 fn time(label: Label, rows: &Rows) -> Duration {
-    let run = || {
-        let start = Instant::now();
-        std::hint::black_box(labels(label, std::hint::black_box(rows)));
-        start.elapsed()
-    };
-    (0..20).map(|_| run()).min().expect("twenty runs")
+    let start = Instant::now();
+    std::hint::black_box(labels(label, std::hint::black_box(rows)));
+    start.elapsed()
 }
 
 /// The labelling under test, linked from the static library.
@@ -205,14 +201,20 @@ pub fn times() -> String {
     table
 }
 
-/// The time of each labelling of a network, in microseconds. All have to give the same labels.
+/// The time of each labelling of a network, in microseconds: the shortest of many runs, taken in turns. All have to give
+/// the same labels.
 fn labelled(timed: &[(&str, Label)], owned: &Owned) -> Vec<f64> {
     let expected = labels(steps::label, &owned.rows());
-    let one = |&(name, label): &(&str, Label)| {
-        assert_eq!(labels(label, &owned.rows()), expected, "{name} gives other labels");
-        time(label, &owned.rows()).as_secs_f64() * 1e6
-    };
-    timed.iter().map(one).collect()
+    for (name, label) in timed {
+        assert_eq!(labels(*label, &owned.rows()), expected, "{name} gives other labels");
+    }
+    let mut best = vec![Duration::MAX; timed.len()];
+    for _ in 0..50 {
+        for ((_, label), best) in timed.iter().zip(&mut best) {
+            *best = time(*label, &owned.rows()).min(*best);
+        }
+    }
+    best.iter().map(|time| time.as_secs_f64() * 1e6).collect()
 }
 
 #[cfg(test)]
