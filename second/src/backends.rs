@@ -52,7 +52,7 @@ pub struct Library {
 }
 
 #[cfg(feature = "staticlib")]
-unsafe extern "C" {
+extern "C" {
     /// Puts the `index`-th line of the answer, its line feed included, into `out`; its length, 0 past
     /// the last line.
     fn lykophene_line(text: *const u8, text_len: usize, index: usize, out: *mut u8, out_len: usize) -> usize;

@@ -79,10 +79,10 @@ fn delays(network: &Network, printed: &Printed, copies: &Copies) -> Result<Vec<u
         for at in (0..printed.clusters.len()).filter(|&at| copies.held(at, number)) {
             let mut arrival = 0;
             for fanin in gate.fanins() {
-                let Some(feeder) = copies.feeder(at, fanin) else {
+                let feeder = copies.feeder(at, fanin).ok_or_else(|| {
                     let root = printed.clusters[at].root;
-                    return Err(format!("in cluster {root}, nothing feeds {number} with {fanin}"));
-                };
+                    format!("in cluster {root}, nothing feeds {number} with {fanin}")
+                })?;
                 let hop = if feeder == at { 0 } else { u64::from(network.hop) };
                 arrival = arrival.max(delays[feeder * copies.gates + fanin] + hop);
             }

@@ -29,10 +29,11 @@ pub fn read(answer: &[u8], gates: usize) -> Result<Printed, String> {
     }
     let mut clusters: Vec<Cluster> = Vec::with_capacity(gates);
     for _ in 0..drawn {
-        let Some(cluster) = cluster(lines.next(0x13, 4)?) else {
-            return lines.wrong("not as many members as counted");
+        let cluster = match cluster(lines.next(0x13, 4)?) {
+            Some(cluster) => cluster,
+            None => return lines.wrong("not as many members as counted"),
         };
-        if clusters.last().is_some_and(|last| last.root >= cluster.root) {
+        if matches!(clusters.last(), Some(last) if last.root >= cluster.root) {
             return lines.wrong("roots do not rise");
         }
         let rising = cluster.members.windows(2).all(|pair| pair[0] < pair[1]);
@@ -72,8 +73,9 @@ impl Lines<'_> {
     /// those of a cluster, 13, may be more.
     fn next(&mut self, kind: u8, length: usize) -> Result<&[u8], String> {
         self.number += 1;
-        let Some(end) = self.rest.iter().position(|&byte| byte == b'\n') else {
-            return self.wrong("no line");
+        let end = match self.rest.iter().position(|&byte| byte == b'\n') {
+            Some(end) => end,
+            None => return self.wrong("no line"),
         };
         let (line, rest) = (&self.rest[..end], &self.rest[end + 1..]);
         self.rest = rest;

@@ -112,7 +112,7 @@ pub fn read(text: &[u8]) -> Result<Network, Refusal> {
     let mut frame = Vec::with_capacity(32);
     for ended_line in text.split_inclusive(|&byte| byte == b'\n') {
         lines += 1;
-        let spelled = ended_line.strip_suffix(b"\n").is_some_and(|line| hex::decode(line, &mut frame));
+        let spelled = matches!(ended_line.strip_suffix(b"\n"), Some(line) if hex::decode(line, &mut frame));
         let fault = if spelled { fault(&frame, lines, network.gates.len(), ended) } else { Some(2) };
         if let Some(number) = fault {
             return Err(Refusal { number, line: lines });

@@ -97,16 +97,22 @@ pub fn labels(label: Label, rows: &Rows) -> [u32; MOST_GATES] {
     labels
 }
 
+/// The same value, which the compiler cannot know to be the same: what it is used for is not left out.
+pub fn opaque<T: Copy>(value: T) -> T {
+    // A read of a value that is there and may be copied.
+    unsafe { std::ptr::read_volatile(&value) }
+}
+
 fn time(label: Label, rows: &Rows) -> Duration {
     let start = Instant::now();
-    std::hint::black_box(labels(label, std::hint::black_box(rows)));
+    opaque(labels(label, &opaque(*rows)));
     start.elapsed()
 }
 
 /// The labelling under test, linked from the static library.
 #[cfg(feature = "bench")]
 mod proved {
-    unsafe extern "C" {
+    extern "C" {
         fn lykophene_label(
             capacity: u32,
             hop: u16,

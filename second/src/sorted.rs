@@ -26,7 +26,10 @@ pub fn label(
         onward.push(Some(0));
         order.clear();
         for gate in (0..=root).rev() {
-            let Some(delay) = onward[gate] else { continue };
+            let delay = match onward[gate] {
+                Some(delay) => delay,
+                None => continue,
+            };
             let through = Some(delay + u32::from(delays[gate]));
             let first = MOST_FANINS * gate;
             for &fanin in &fanins[first..first + usize::from(counts[gate])] {

@@ -45,8 +45,9 @@ fn meets(case: &Case, answer: &[u8], due: Option<Refusal>) -> bool {
         return due == Some(Refusal { number, line });
     }
     let gates = case.text.split(|&byte| byte == b'\n').count() - 3;
-    let Ok(printed) = printed::read(answer, gates) else {
-        return false;
+    let printed = match printed::read(answer, gates) {
+        Ok(printed) => printed,
+        Err(_) => return false,
     };
     let drawn = |delay, roots: &[usize]| {
         printed.output_delay == delay && printed.clusters.iter().map(|c| &c.root).eq(roots)
@@ -54,7 +55,7 @@ fn meets(case: &Case, answer: &[u8], due: Option<Refusal>) -> bool {
     match case.outcome {
         Drawn(delay, roots) => drawn(delay, roots),
         Holds(delay, roots, members) => {
-            drawn(delay, roots) && printed.clusters.last().is_some_and(|c| c.members == members)
+            drawn(delay, roots) && matches!(printed.clusters.last(), Some(last) if last.members == members)
         }
         Whole(whole) => answer == whole.as_bytes(),
         Refused(..) | Read => due.is_none(),
@@ -118,7 +119,7 @@ pub fn cases() -> Vec<Case> {
         case("P5", a(5, 4), Drawn(7, &[4])),
         case("P6", a(1, 0), Drawn(7, &[0, 1, 2, 3, 4])),
         case("P7", a(0, 4), Refused(9, 2)),
-        case("P8", b"01000000000000\n020000000000\n0F0001\n".into(), Drawn(0, &[0])),
+        case("P8", b"01000000000000\n020000000000\n0F0001\n".to_vec(), Drawn(0, &[0])),
         case("P9", chain_of_three(), Holds(1, &[0, 2], &[1, 2])),
         case("P10", Vec::new(), Refused(3, 1)),
         case("P11", header_and("0F0000\n"), Refused(8, 2)),

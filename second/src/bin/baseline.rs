@@ -3,11 +3,10 @@
 //! the proved program it looks at the rows before it labels, before it draws, before each walk and at the first line; with
 //! the word `lean` it never does.
 
-use std::hint::black_box;
 use std::io::{self, BufWriter, Read, Write};
 
 use second::rules::{self, Network, LONGEST_TEXT, MOST_GATES};
-use second::shapes::{labels, Owned};
+use second::shapes::{labels, opaque, Owned};
 use second::{hex, steps};
 
 fn main() -> io::Result<()> {
@@ -34,7 +33,7 @@ fn result(network: &Network, lean: bool, mut out: impl Write) -> io::Result<()> 
     let rows = owned.rows();
     let look = || {
         if !lean {
-            assert!(steps::stand(black_box(&rows)), "the rows of a network that was read");
+            assert!(steps::stand(&opaque(rows)), "the rows of a network that was read");
         }
     };
     look();
