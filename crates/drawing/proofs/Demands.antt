@@ -1,23 +1,22 @@
 -- The three demands hold of every text.
-use Prim.Native.Nat.{ℕ, zero, suc, _+_, _*_, _≤_, _<_}
-use mathlib.Core.Path.{_≡_, refl, sym, _∙_, ap, subst}
-use mathlib.Core.Logic.{_⊎_, inl, inr, ⊎-elim, _↔_}
-use mathlib.Core.Bool.{Bool, true, false, cond, _&&_}
-use mathlib.Core.List.{List, [], _∷_, _++_, map, List·Memᴰ, List·Memᴰ·head, List·Memᴰ·tail, List·Memᴰ·not-nil, List·Memᴰ·cases-cons, List·Memᴰ·append-cases, List·Memᴰ·eq-of-singleton}
+use Prim.Native.Nat.{ℕ, zero, suc, _+_, _*_, _≤_}
+use mathlib.Core.Path.{_≡_, refl, ap}
+use mathlib.Core.Logic.{_⊎_, inl, inr, ⊎-elim}
+use mathlib.Core.Bool.{Bool, true, false, _&&_}
+use mathlib.Core.List.{List, [], _∷_, _++_, map, List·Memᴰ, List·Memᴰ·not-nil, List·Memᴰ·cases-cons, List·Memᴰ·append-cases, List·Memᴰ·eq-of-singleton}
 use mathlib.Core.Option.{Option, none, some}
 use native.Mathlib.Omega.{arith}
 use lib.ListN.{length, getD, length-append, length-map}
 use borrow.Author.Tests.{leb-true}
 use lib.Dec.{leb, ltb}
-use Rattle.model.specs.Basics.{_∈_, upto, keep, gather, member}
+use Rattle.model.specs.Basics.{upto, keep, gather, member}
 use Rattle.model.specs.Ceilings.{most-gates}
-use Rattle.model.specs.Network.{Network, size, WellFormed, Heavy, outputs}
-use Rattle.model.specs.Clustering.{Clustering, Legal}
+use Rattle.model.specs.Network.{Network, size, WellFormed}
 use Rattle.model.specs.Label.{labels, label, cluster}
 use Rattle.model.specs.Drawing.{marks, drawn, members, output-delay}
-use Rattle.model.specs.Best.{SomeHeavy, Best}
+use Rattle.model.specs.Best.{SomeHeavy}
 use Rattle.model.proofs.Best.{best, least-delay}
-use Rattle.model.proofs.Lists.{true-or-false, in-keep, keep-in, in-upto, upto-in, member-true, true-member}
+use Rattle.model.proofs.Lists.{true-or-false, in-keep, keep-in, in-upto, member-true, true-member}
 use Rattle.model.proofs.Label.{label-input, label-largest}
 use Rattle.model.proofs.Growth.{grows}
 use Rattle.model.proofs.UpperBound.{member-known, member-position}
@@ -26,9 +25,8 @@ use Rattle.model.proofs.CopyDelay.{output-delay-is}
 use Rattle.frames.specs.Text.{Line, lines, line-feed}
 use Rattle.frames.specs.Table.{Row, table}
 use Rattle.frames.specs.Fault.{Given}
-use Rattle.frames.specs.declared.Place.the-variants.{Closed}
 use Rattle.network.specs.Reading.{Reading, refused, network, reading, first-heavy}
-use Rattle.network.specs.Says.{Says, too-long, faulty-line, no-end, too-heavy, SaysRoom, of-text, short-row, Reads}
+use Rattle.network.specs.Says.{Says, too-long, faulty-line, no-end, too-heavy, SaysRoom, of-text, short-row}
 use Rattle.network.specs.Rows.{Rows, answer, filled}
 use Rattle.network.specs.Spelling.{byte-digits, spell-line, word-bytes, long-bytes}
 use Rattle.network.proofs.Table.{reading-exactly, walk-whole}

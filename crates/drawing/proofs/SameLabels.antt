@@ -10,7 +10,7 @@ use lib.ListN.{length, getD, replicate}
 use Rattle.model.specs.Basics.{_∈_, member, keep, gather, upto, largest}
 use Rattle.model.specs.Network.{Network, size, fanins, outputs, position, gate-at}
 use Rattle.model.specs.Label.{cluster}
-use Rattle.model.specs.Drawing.{inputs, mark, select, marks, drawn, members}
+use Rattle.model.specs.Drawing.{inputs, mark, select, marks, members}
 use Rattle.model.proofs.Lists.{upto-in}
 use Rattle.model.proofs.Label.{cluster-agree}
 use Rattle.model.proofs.Outputs.{outputs-in}
@@ -45,10 +45,6 @@ module _ (n : Network) (l l′ : List ℕ) (same : (u : ℕ) → u < size n → 
   pub marks-same : marks n l ≡ marks n l′
   unfolding marks
   marks-same = select-same (size n) (mark (replicate (size n) 0) (outputs n)) (omega arith)
-
-  pub drawn-same : drawn n l ≡ drawn n l′
-  unfolding drawn
-  drawn-same = ap (λ (row : List ℕ). keep (λ r. ltb 0 (getD row r 0)) (upto (size n))) marks-same
 
   pub delay-same : delay-from n l ≡ delay-from n l′
   unfolding delay-from

@@ -3,7 +3,7 @@ use Prim.Native.Nat.{ℕ, suc, _+_, _*_, _≤_, _<_}
 use mathlib.Core.Path.{_≡_}
 use mathlib.Core.Logic.{_⊎_, _↔_}
 use mathlib.Core.Bool.{true, false}
-use mathlib.Core.List.{List, [], _∷_, List·Memᴰ}
+use mathlib.Core.List.{List, List·Memᴰ}
 use lib.ListN.{length}
 use Rattle.model.specs.Basics.{_∈_, Largest}
 use Rattle.model.specs.Ceilings.{most-gates}
@@ -15,7 +15,7 @@ use Rattle.model.specs.Drawing.{Drawn, drawn, members, OutputDelay}
 use Rattle.model.specs.Best.{Best, LeastDelay}
 use Rattle.frames.specs.Text.{lines}
 use Rattle.frames.specs.declared.Place.the-variants.{Closed}
-use Rattle.network.specs.Reading.{Reading, refused, network, reading, most-text}
+use Rattle.network.specs.Reading.{refused, network, reading, most-text}
 use Rattle.network.specs.Says.{Before}
 use Rattle.network.specs.Rows.{Rows, answer, filled}
 use Rattle.network.specs.Spelling.{spell-network}

@@ -2,7 +2,7 @@
 -- the first is this frame, without fault, and the others begin where the answer says.
 use Prim.Native.Nat.{ℕ, _+_, _≤_, _<_}
 use mathlib.Core.Path.{_≡_, refl, sym, ap, _∙_}
-use mathlib.Core.Bool.{Bool, true, false, cond, _||_}
+use mathlib.Core.Bool.{Bool, true, false, cond}
 use mathlib.Core.List.{List, [], _∷_}
 use mathlib.Core.Option.{Option, none, some}
 use mathlib.Core.Logic.{_⊎_, inl, inr, ⊎-elim}
@@ -11,17 +11,16 @@ use native.Mathlib.Decide.{decLt}
 use lib.ListN.{length, drop, drop-of-length-le}
 use lib.Seq.{slice}
 use lib.Dec.{eqb}
-use borrow.Author.Tests.{eqb-true, eqb-false, not-false}
+use borrow.Author.Tests.{eqb-true, eqb-false}
 use Rattle.units.specs.Units.{cells, ticks}
 use Rattle.units.specs.declared.Cells.{Cells}
 use Rattle.units.specs.declared.Ticks.{Ticks}
 use Rattle.units.specs.declared.FanInCount.{FanInCount}
 use Rattle.frames.specs.declared.Place.{Place}
-use Rattle.frames.specs.declared.Place.the-variants.{Opening, AfterGates, Closed}
 use Rattle.frames.specs.declared.LineRead.{LineRead}
 use Rattle.frames.specs.declared.LineRead.the-variants.{Header, Gate, End, Refused, Nothing}
 use Rattle.frames.specs.Text.{Line, lines}
-use Rattle.frames.specs.Table.{fault, misplaced, kind, header-capacity, header-hop, gate-of, gate-count}
+use Rattle.frames.specs.Table.{fault, kind, header-capacity, header-hop, gate-of, gate-count}
 use Rattle.frames.specs.Frames.{frame, told, judged, line-read, line-from, line-length}
 use Rattle.frames.proofs.Formed.{formed}
 use Rattle.frames.proofs.Rows.{faultless}
@@ -148,23 +147,6 @@ module _ (text : List ℕ) (at : ℕ) (p : Place) (line : ℕ) where
   pub nothing-told : line-read text at p line ≡ Nothing → lines (drop at text) ≡ []
   unfolding lines
   nothing-told e = ⊎-elim (λ h. ap lines (drop-of-length-le text {i = at} h)) (λ h. absurd (nothing-there h e)) left
-
--- The frame of a line without fault is the one that has its place there.
-pub opening-header : (l : Line) → fault Opening l ≡ none → kind l ≡ 0x01
-unfolding misplaced
-opening-header l e = eqb-true _ _ (not-false _ (faultless Opening l e .placed))
-
-pub closed-never : (l : Line) → fault Closed l ≡ none → ⊥
-unfolding misplaced
-closed-never l e = let no-place = faultless Closed l e .placed in never cc
-
-pub gate-or-end : (g : ℕ) (l : Line) → fault (AfterGates g) l ≡ none → (kind l ≡ 0x02) ⊎ (kind l ≡ 0x0F)
-unfolding misplaced
-gate-or-end g l e = by (eqb (kind l) 0x02) refl (not-false _ (faultless (AfterGates g) l e .placed))
-  where
-    by : (t : Bool) → eqb (kind l) 0x02 ≡ t → (t || eqb (kind l) 0x0F) ≡ true → (kind l ≡ 0x02) ⊎ (kind l ≡ 0x0F)
-    by true f h = inl (eqb-true _ _ f)
-    by false f h = inr (eqb-true _ _ h)
 
 -- What a frame says is what the table reads in its line.
 module _ (l : Line) (n : ℕ) where

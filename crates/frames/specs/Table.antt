@@ -1,6 +1,6 @@
 -- Document 01, "Refusal numbers": the rows of the table that speak of one line, each a test of a line where it stands,
 -- and the rule that picks among them.
-use Prim.Native.Nat.{ℕ, zero, suc, _+_, _*_}
+use Prim.Native.Nat.{ℕ, suc, _+_, _*_}
 use mathlib.Core.Bool.{Bool, true, false, cond, not, _&&_, _||_}
 use mathlib.Core.List.{List, [], _∷_}
 use mathlib.Core.Option.{Option, none, some}

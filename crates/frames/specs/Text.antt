@@ -1,8 +1,8 @@
 -- Document 01, "Frames": text, lines, digits, numbers.
-use Prim.Native.Nat.{ℕ, zero, suc, _+_, _*_, _-_}
-use mathlib.Core.Bool.{Bool, true, false, cond, not, _&&_, _||_}
-use mathlib.Core.List.{List, [], _∷_, map}
-use lib.ListN.{length, getD, drop}
+use Prim.Native.Nat.{ℕ, _+_, _*_, _-_}
+use mathlib.Core.Bool.{Bool, true, false, cond, _&&_}
+use mathlib.Core.List.{List, [], _∷_}
+use lib.ListN.{getD}
 use lib.Dec.{leb, ltb, eqb}
 
 -- the line feed, 0A

@@ -1,16 +1,16 @@
 -- Laws of specs/Loaded.antt: what stands in the rows, gate by gate.
-use Prim.Native.Nat.{ℕ, zero, suc, _+_, _*_, _≤_, _<_, min}
-use mathlib.Core.Path.{_≡_, refl, sym, _∙_, ap}
+use Prim.Native.Nat.{ℕ, zero, suc, _≤_, _<_, min}
+use mathlib.Core.Path.{_≡_, refl, _∙_, ap}
 use mathlib.Core.Logic.{⊎-elim}
-use mathlib.Core.List.{List, [], _∷_, _++_, map, map-append}
+use mathlib.Core.List.{List, [], _∷_, map, map-append}
 use native.Mathlib.Omega.{arith}
-use lib.ListN.{length, getD, take, drop, length-append, length-map, List·getD-append}
+use lib.ListN.{length, getD, length-append, length-map, List·getD-append}
 use lib.Seq.{getD-at}
-use Rattle.model.specs.Basics.{_∈_, upto}
+use Rattle.model.specs.Basics.{upto}
 use Rattle.model.specs.Ceilings.{most-fanins, most-hop}
 use Rattle.model.specs.Network.{Gate, Network, size, gate, weight, delay, fanins as fanins-of, position}
 use Rattle.model.proofs.Lists.{same-or-not}
-use Rattle.network.specs.Rows.{Rows, row-gate, rows-network}
+use Rattle.network.specs.Rows.{row-gate, rows-network}
 use Rattle.labelling.specs.Standing.{row-fanins, Wired, Timed, Weighed}
 use Rattle.labelling.specs.Loaded.{standing, Loaded}
 

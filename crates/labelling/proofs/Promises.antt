@@ -1,13 +1,13 @@
 -- What the public functions promise, case by case.
 use Prim.Native.Nat.{ℕ, _≤_, _<_}
-use mathlib.Core.Path.{_≡_, refl, sym, _∙_, ap}
+use mathlib.Core.Path.{_≡_, _∙_, ap}
 use mathlib.Core.Logic.{⊎-elim}
 use mathlib.Core.Bool.{true, false}
-use mathlib.Core.List.{List, [], _∷_, _++_, List·Memᴰ·eq-of-singleton}
+use mathlib.Core.List.{List, [], _++_, List·Memᴰ·eq-of-singleton}
 use native.Mathlib.Omega.{arith}
 use borrow.Author.Tests.{lt-ltb, le-ltb}
 use lib.ListN.{length, drop}
-use Rattle.model.specs.Basics.{_∈_, upto, member, keep}
+use Rattle.model.specs.Basics.{upto, member}
 use Rattle.model.specs.Network.{Network, size, input}
 use Rattle.model.specs.Label.{labels as labels-of, cluster}
 use Rattle.model.specs.Drawing.{members as members-of}
@@ -15,7 +15,7 @@ use Rattle.model.proofs.Lists.{true-or-false, false-member, keep-none, upto-in}
 use Rattle.model.proofs.Networks.{reader-known, reads-something}
 use Rattle.model.proofs.Growth.{cluster-of-input}
 use Rattle.model.proofs.Label.{labels-length}
-use Rattle.network.specs.Reading.{Reading, refused, network}
+use Rattle.network.specs.Reading.{refused, network}
 use Rattle.network.specs.Rows.{Rows, rows-of, rows-network}
 use Rattle.network.specs.Spelling.{rows-answer}
 use Rattle.network.specs.Writing.{row-unless}

@@ -4,7 +4,7 @@ use mathlib.Core.List.{List}
 use lib.ListN.{length, getD}
 use Rattle.model.specs.Ceilings.{most-fanins}
 use Rattle.model.specs.Network.{Network, WellFormed, WithinCeilings}
-use Rattle.network.specs.Rows.{Rows, rows-network}
+use Rattle.network.specs.Rows.{rows-network}
 
 -- the network that stands in the rows
 abbrev pub standing : ℕ → ℕ → ℕ → List ℕ → List ℕ → List ℕ → List ℕ → Network

@@ -1,18 +1,16 @@
 -- Demand 3: the drawn clustering is legal and best, and there is none exactly when some gate is heavier than M.
-use Prim.Native.Nat.{ℕ, zero, suc, _+_, _≤_, _<_}
-use mathlib.Core.Path.{_≡_, refl, sym, _∙_, ap, subst}
-use mathlib.Core.Logic.{_⊎_, inl, inr, ⊎-elim, _↔_}
-use mathlib.Core.Bool.{Bool, true, false}
-use mathlib.Core.List.{List, [], _∷_}
+use Prim.Native.Nat.{ℕ, zero, suc, _≤_, _<_}
+use mathlib.Core.Path.{_≡_, refl, sym, ap, subst}
+use mathlib.Core.Logic.{_⊎_, inl, inr, ⊎-elim}
 use native.Mathlib.Omega.{arith}
 use native.Mathlib.Decide.{decLt}
 use borrow.Author.Tests.{eq-eqb}
 use lib.Dec.{eqb}
-use Rattle.model.specs.Basics.{_∈_, Largest, total}
-use Rattle.model.specs.Network.{Network, size, weight, outputs, WellFormed, Heavy}
-use Rattle.model.specs.Label.{labels, label}
-use Rattle.model.specs.Clustering.{Clustering, Wired, Fits, Legal, in-cluster, cluster-weight, Delay, ClusteringDelay, OutputCopy, copy-delay}
-use Rattle.model.specs.Drawing.{name, drawing, output-delay}
+use Rattle.model.specs.Basics.{_∈_}
+use Rattle.model.specs.Network.{Network, size, weight, WellFormed}
+use Rattle.model.specs.Label.{label}
+use Rattle.model.specs.Clustering.{Clustering, Fits, Legal, in-cluster, cluster-weight, Delay, copy-delay}
+use Rattle.model.specs.Drawing.{name, drawing}
 use Rattle.model.specs.Best.{SomeHeavy, Best, LeastDelay}
 use Rattle.model.proofs.Lists.{same-or-not, in-keep, total-in}
 use Rattle.model.proofs.Largest.{largest-unique}

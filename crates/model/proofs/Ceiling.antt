@@ -1,13 +1,13 @@
 -- No label exceeds 67,042,305.
 use Prim.Native.Nat.{ℕ, zero, suc, _+_, _*_, _-_, _≤_, _<_}
-use mathlib.Core.Path.{_≡_, refl, sym, ap}
+use mathlib.Core.Path.{_≡_, ap}
 use mathlib.Core.Logic.{_⊎_, ⊎-elim}
 use mathlib.Core.Bool.{true, false}
 use native.Mathlib.Omega.{arith}
 use Rattle.model.specs.Basics.{_∈_}
 use Rattle.model.specs.Ceilings.{most-label}
-use Rattle.model.specs.Network.{Network, size, delay, input, position, WellFormed, WithinCeilings}
-use Rattle.model.specs.Onward.{Path, start, onto, onward}
+use Rattle.model.specs.Network.{Network, size, input, position, WellFormed, WithinCeilings}
+use Rattle.model.specs.Onward.{Path, start, onto}
 use Rattle.model.specs.Label.{pull, ordered, Counts, nothing, input-inside, stopped, labels, label}
 use Rattle.model.proofs.Lists.{true-or-false}
 use Rattle.model.proofs.Networks.{position-known}

@@ -1,27 +1,26 @@
 -- The clustering of all roots, of the drawn roots, and what the two bounds give together.
 use Prim.Native.Nat.{ℕ, zero, suc, _+_, _-_, _≤_, _<_}
 use mathlib.Core.Path.{_≡_, refl, sym, _∙_, ap, subst}
-use mathlib.Core.Logic.{_⊎_, inl, inr, ⊎-elim}
-use mathlib.Core.Bool.{Bool, true, false}
-use mathlib.Core.List.{List, [], _∷_, List·Memᴰ·tail, List·Memᴰ·eq-of-singleton}
+use mathlib.Core.Logic.{_⊎_, ⊎-elim}
+use mathlib.Core.Bool.{true, false}
+use mathlib.Core.List.{List, List·Memᴰ·tail, List·Memᴰ·eq-of-singleton}
 use native.Mathlib.Omega.{arith}
 use native.Mathlib.Decide.{decLt}
-use Rattle.model.specs.Basics.{_∈_, Largest, Distinct, upto, total}
-use Rattle.model.specs.Network.{Network, size, weight, delay, fanins, input, outputs, position, WellFormed, Heavy}
-use Rattle.model.specs.Onward.{InCone, onward}
-use Rattle.model.specs.Label.{pull, ordered, joined, cluster, labels, label, Before, larger-pull, equal-pull, ReachesInside, there, through}
-use Rattle.model.specs.Clustering.{Clustering, Wired, Fits, OneCopy, Legal, CopyPath, onto, crossing, Delay}
-use Rattle.model.specs.Drawing.{InputOf, Draws, Drawn, drawn, name, clustering-of, drawing}
+use Rattle.model.specs.Basics.{_∈_, Distinct, upto}
+use Rattle.model.specs.Network.{Network, size, weight, delay, fanins, input, outputs, position, WellFormed}
+use Rattle.model.specs.Label.{pull, joined, cluster, labels, label, Before, larger-pull, equal-pull, ReachesInside, there, through}
+use Rattle.model.specs.Clustering.{Wired, Fits, OneCopy, Legal, CopyPath, onto, crossing, Delay}
+use Rattle.model.specs.Drawing.{InputOf, Drawn, drawn, name, clustering-of, drawing}
 use Rattle.model.specs.Best.{SomeHeavy}
 use Rattle.model.proofs.Lists.{true-or-false, same-or-not, ∈-subst, in-upto, upto-in, distinct-upto}
-use Rattle.model.proofs.Networks.{position-tells, reader-known}
-use Rattle.model.proofs.Paths.{path-known, path-rises, first-step}
+use Rattle.model.proofs.Networks.{reader-known}
+use Rattle.model.proofs.Paths.{path-rises, first-step}
 use Rattle.model.proofs.Onward.{in-cone-true, true-in-cone, onward-self, onward-step}
-use Rattle.model.proofs.Order.{in-ordered, ordered-in}
-use Rattle.model.proofs.Growth.{joined-cone, joined-closed, cluster-in, cluster-of-input, cluster-of-reader, cluster-distinct, cluster-fits, root-in-cluster, joined-in}
+use Rattle.model.proofs.Order.{in-ordered}
+use Rattle.model.proofs.Growth.{joined-cone, joined-closed, cluster-in, cluster-of-input, cluster-of-reader, cluster-distinct, cluster-fits, root-in-cluster}
 use Rattle.model.proofs.Outputs.{outputs-in}
 use Rattle.model.proofs.Drawn.{drawn-is, drawn-known, drawn-distinct}
-use Rattle.model.proofs.Clusterings.{copy-gate, copy-feeder, copy-parts, in-copies, copies-distinct, wired, fits}
+use Rattle.model.proofs.Clusterings.{copy-gate, copy-parts, in-copies, copies-distinct, wired, fits}
 use Rattle.model.proofs.LowerBound.{reaches-label}
 use Rattle.model.proofs.UpperBound.{member-cone, member-known, member-position, within-label}
 

@@ -121,9 +121,6 @@ module _ (n : Network) (l : List ℕ) (v : ℕ) where
   unfolding stop outside
   next = of-root .next
 
-  pub joined-front : (rest : List ℕ) × (ordered n l v ≡ joined n l v ++ rest) × (stop n l v ≡ head? rest)
-  joined-front = (outside, splits, next)
-
   pub joined-in : (u : ℕ) → u ∈ joined n l v → u ∈ ordered n l v
   joined-in u m = rw splits (Memᴰ·append-left outside m)
 
@@ -194,12 +191,6 @@ module _ (n : Network) (l : List ℕ) (v : ℕ) where
       go [] e o = absurd (List·Memᴰ·not-nil o)
       go (x ∷ xs) e o = (x, e)
 
-  pub stop-none : stop n l v ≡ none → (u : ℕ) → u ∈ ordered n l v → u ∈ joined n l v
-  stop-none e u m =
-      ⊎-elim (λ (m′ : u ∈ joined n l v). m′)
-      (λ (o : u ∈ outside). absurd (List·Memᴰ·not-nil (rw (head-none outside (sym next ∙ e)) at o)))
-      (member-or-outside u m)
-
   -- the weights
 
   pub joined-fits : weight n v ≤ n .capacity → weight n v + total (weight n) (joined n l v) ≤ n .capacity
@@ -221,13 +212,6 @@ module _ (n : Network) (l : List ℕ) (v : ℕ) where
   pub none-joined : stop n l v ≡ none → ordered n l v ≡ joined n l v
   none-joined e = splits ∙ rw (head-none outside (sym next ∙ e)) (append-nil (joined n l v))
 
-  pub joined-none : ((u : ℕ) → u ∈ ordered n l v → u ∈ joined n l v) → stop n l v ≡ none
-  joined-none h = go (stop n l v) refl
-    where
-      go : (o : Option ℕ) → stop n l v ≡ o → o ≡ none
-      go none e = refl
-      go (some s) e = absurd (stop-no-member s e (h s (stop-in s e)))
-
   pub fits-none : weight n v + total (weight n) (ordered n l v) ≤ n .capacity → stop n l v ≡ none
   fits-none h = go (stop n l v) refl
     where
@@ -245,10 +229,6 @@ module _ (n : Network) (l : List ℕ) (v : ℕ) where
 
   pub stop-none-iff : weight n v ≤ n .capacity → (stop n l v ≡ none) ↔ (weight n v + total (weight n) (ordered n l v) ≤ n .capacity)
   stop-none-iff h = (λ e. rw (none-joined e) (joined-fits h), fits-none)
-
-  pub stop-none-iff-in :
-      (u : ℕ) → u ∈ ordered n l v → (stop n l v ≡ none) ↔ (weight n v + total (weight n) (ordered n l v) ≤ n .capacity)
-  stop-none-iff-in u m = (λ e. rw (none-joined e) (member-fits u (stop-none e u m)), fits-none)
 
   -- A gate is a member exactly when the root and the gates not after it fit. The row is the members, then the gates outside,
   -- the stopping gate first, and every member is before every gate outside. So those not after a member are members, and the

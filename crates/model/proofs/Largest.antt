@@ -16,9 +16,6 @@ largest-in {x} {xs} m =
     ⊎-elim (λ (z : largest xs ≡ 0). let h = at-most-largest m in ∈-subst (omega arith) m) (λ (s : largest xs ∈ xs). s)
     (largest-stands xs)
 
-pub largest-of : (xs : List ℕ) (x : ℕ) → x ∈ xs → Largest (λ d. d ∈ xs) (largest xs)
-largest-of xs x m = record { reached = largest-in m; bounds = λ e k. at-most-largest k }
-
 -- the largest value of f over a list
 pub largest-map :
     (f : ℕ → ℕ) (xs : List ℕ) (x : ℕ) → x ∈ xs

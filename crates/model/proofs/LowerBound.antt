@@ -1,22 +1,22 @@
 -- No copy beats its label.
 use Prim.Native.Nat.{ℕ, zero, suc, _+_, _≤_, _<_}
-use mathlib.Core.Path.{_≡_, refl, sym, _∙_, ap, subst}
+use mathlib.Core.Path.{_≡_, refl, sym, _∙_, ap}
 use mathlib.Core.Logic.{_⊎_, inl, inr, ⊎-elim}
-use mathlib.Core.Bool.{Bool, true, false}
+use mathlib.Core.Bool.{true, false}
 use mathlib.Core.List.{List, [], _∷_, map, List·Memᴰ·head, List·Memᴰ·tail, List·Memᴰ·not-nil, List·Memᴰ·cases-cons}
 use mathlib.Core.Option.{some}
 use native.Mathlib.Omega.{arith}
 use borrow.Author.Tests.{eq-eqb, ne-eqb}
 use lib.Dec.{eqb}
-use Rattle.model.specs.Basics.{_∈_, Largest, Distinct, more, total}
-use Rattle.model.specs.Network.{Network, size, weight, delay, fanins, Input, input, position, WellFormed}
+use Rattle.model.specs.Basics.{_∈_, Distinct, more, total}
+use Rattle.model.specs.Network.{Network, size, weight, delay, fanins, input, position, WellFormed}
 use Rattle.model.specs.Onward.{Path, start, onto, onward}
-use Rattle.model.specs.Label.{pull, ordered, joined, stop, cluster, Counts, nothing, input-inside, stopped, labels, label}
+use Rattle.model.specs.Label.{pull, ordered, joined, stop, Counts, nothing, input-inside, stopped, labels, label}
 use Rattle.model.specs.Clustering.{Clustering, Wired, Fits, in-cluster, cluster-weight, crossing, CopyPath}
 use Rattle.model.specs.Clustering as Clusterings
-use Rattle.model.proofs.Lists.{true-or-false, same-or-not, in-or-out, ∈-subst, in-map, map-in, in-keep, keep-in, total-map, total-within}
-use Rattle.model.proofs.Networks.{input-true, true-input, reads-something}
-use Rattle.model.proofs.Paths.{path-known, path-rises}
+use Rattle.model.proofs.Lists.{true-or-false, same-or-not, in-or-out, ∈-subst, in-map, in-keep, total-map, total-within}
+use Rattle.model.proofs.Networks.{input-true, reads-something}
+use Rattle.model.proofs.Paths.{path-known}
 use Rattle.model.proofs.Onward.{in-cone-true, onward-path}
 use Rattle.model.proofs.Growth.{joined-in, stop-in, stop-no-member, stop-overfills, member-pull, cluster-distinct, cluster-of-reader}
 use Rattle.model.proofs.Order.{ordered-in}

@@ -1,14 +1,14 @@
 -- Laws of specs/Network.antt. Of positions and of the gate at a position the other pages use only what stands here.
-use Prim.Native.Nat.{ℕ, zero, suc, _+_, _≤_, _<_}
-use mathlib.Core.Path.{_≡_, refl, sym, _∙_, ap, subst}
-use mathlib.Core.Logic.{_⊎_, inl, inr, ⊎-elim}
-use mathlib.Core.Bool.{Bool, true, false}
+use Prim.Native.Nat.{ℕ, _≤_, _<_}
+use mathlib.Core.Path.{_≡_, refl, sym, _∙_, ap}
+use mathlib.Core.Logic.{_⊎_, ⊎-elim}
+use mathlib.Core.Bool.{true, false}
 use mathlib.Core.List.{List, [], _∷_, List·Memᴰ·head, List·Memᴰ·not-nil}
 use native.Mathlib.Decide.{decLt}
 use native.Mathlib.Omega.{arith}
-use lib.ListN.{length, getD, List·getD-eq-default}
+use lib.ListN.{List·getD-eq-default}
 use Rattle.model.specs.Basics.{_∈_}
-use Rattle.model.specs.Network.{Gate, Network, size, gate, weight, delay, fanins, Input, empty, input, position, gate-at, WellFormed}
+use Rattle.model.specs.Network.{Gate, Network, size, gate, weight, delay, fanins, Input, empty, input, position, gate-at}
 use Rattle.model.proofs.Lists.{not-both, true-or-false}
 
 -- a number past the last gate reads nothing
@@ -57,10 +57,6 @@ module _ (n : Network) where
   pub position-known : (v : ℕ) → v < size n → position n v < size n
   unfolding position
   position-known v h = h
-
-  pub gate-at-known : (p : ℕ) → p < size n → gate-at n p < size n
-  unfolding gate-at
-  gate-at-known p h = h
 
   pub gate-at-position : (v : ℕ) → gate-at n (position n v) ≡ v
   unfolding gate-at position

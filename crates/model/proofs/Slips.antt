@@ -1,21 +1,19 @@
 -- What the class draws wrong: each slip as a definition of its own, and the place in a network of document 01 where it
 -- departs from the rule.
-use Prim.Native.Nat.{ℕ, zero, suc, _+_, _≤_, _<_, max, _/_, _%_}
+use Prim.Native.Nat.{ℕ, zero, suc, _+_, max}
 use mathlib.Core.Path.{_≡_, refl}
-use mathlib.Core.Logic.{_⊎_, ⊎-elim}
-use mathlib.Core.Bool.{Bool, true, false, cond, not}
-use mathlib.Core.List.{List, [], _∷_, _++_, map, List·Memᴰ·not-nil, List·Memᴰ·cases-cons, List·Memᴰ·eq-of-singleton}
+use mathlib.Core.Bool.{false, cond}
+use mathlib.Core.List.{List, [], _∷_, _++_, map, List·Memᴰ·not-nil, List·Memᴰ·eq-of-singleton}
 use mathlib.Core.Option.{Option, none, some}
 use native.Mathlib.Omega.{arith}
-use lib.ListN.{getD}
-use lib.Dec.{leb, ltb, eqb}
+use lib.Dec.{leb}
 use Rattle.model.specs.Basics.{_∈_, member, largest, keep, total, upto}
 use Rattle.model.specs.Network.{Network, size, weight, delay, fanins, gate, input, position, gate-at}
 use Rattle.model.specs.Onward.{in-cone, onward}
-use Rattle.model.specs.Label.{pull, ordered, Growth, joins, grow, growth, from-stop, stop, cluster, labels, label, ReachesInside, there, through}
+use Rattle.model.specs.Label.{pull, ordered, grow, from-stop, stop, cluster, labels, label, ReachesInside, there, through}
 use Rattle.model.specs.Clustering.{Clustering, crossing, copy-delay}
 use Rattle.model.specs.Drawing.{name, clustering-of, drawing}
-use Rattle.model.proofs.Lists.{not-both, member-false}
+use Rattle.model.proofs.Lists.{member-false}
 use Rattle.model.proofs.Examples.{A, chain}
 
 -- "Cluster of v grown from its fan-ins' clusters": each fan-in's cluster taken whole where it fits.

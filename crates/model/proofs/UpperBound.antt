@@ -1,21 +1,21 @@
 -- The drawn roots reach their labels.
-use Prim.Native.Nat.{ℕ, zero, suc, _+_, _≤_, _<_}
-use mathlib.Core.Path.{_≡_, refl, sym, _∙_, ap, subst}
-use mathlib.Core.Logic.{_⊎_, inl, inr, ⊎-elim}
-use mathlib.Core.Bool.{Bool, true, false}
-use mathlib.Core.List.{List, [], _∷_, List·Memᴰ·tail, List·Memᴰ·eq-of-singleton}
+use Prim.Native.Nat.{ℕ, _+_, _≤_, _<_}
+use mathlib.Core.Path.{_≡_, refl, sym, _∙_, ap}
+use mathlib.Core.Logic.{_⊎_, ⊎-elim}
+use mathlib.Core.Bool.{true, false}
+use mathlib.Core.List.{List, List·Memᴰ·tail, List·Memᴰ·eq-of-singleton}
 use native.Mathlib.Omega.{arith}
-use Rattle.model.specs.Basics.{_∈_, Largest}
+use Rattle.model.specs.Basics.{_∈_}
 use Rattle.model.specs.Network.{Network, size, delay, fanins, Input, input, position, WellFormed}
 use Rattle.model.specs.Onward.{InCone, onward}
-use Rattle.model.specs.Label.{pull, ordered, joined, stop, cluster, input-inside, stopped, labels, label}
-use Rattle.model.specs.Clustering.{Clustering, CopyPath, start, onto, crossing}
+use Rattle.model.specs.Label.{pull, joined, cluster, input-inside, stopped, labels, label}
+use Rattle.model.specs.Clustering.{CopyPath, start, onto}
 use Rattle.model.specs.Drawing.{name, clustering-of}
 use Rattle.model.proofs.Lists.{true-or-false, in-or-out, ∈-subst}
-use Rattle.model.proofs.Networks.{input-true, true-input, reader-no-input}
-use Rattle.model.proofs.Paths.{path-here, path-edge, path-join, path-known, path-rises}
+use Rattle.model.proofs.Networks.{true-input, reader-no-input}
+use Rattle.model.proofs.Paths.{path-here, path-edge, path-join, path-known}
 use Rattle.model.proofs.Onward.{in-cone-true, true-in-cone, onward-self, onward-edge}
-use Rattle.model.proofs.Growth.{joined-in, joined-cone, outside-after, stop-some, cluster-in, cluster-of-input, cluster-of-reader, root-in-cluster, root-not-joined}
+use Rattle.model.proofs.Growth.{joined-cone, outside-after, stop-some, cluster-in, cluster-of-input, cluster-of-reader, root-in-cluster, root-not-joined}
 use Rattle.model.proofs.Order.{in-ordered}
 use Rattle.model.proofs.Clusterings.{copy-gate, copy-cluster, copy-feeder, feeds-inside, feeds-outside}
 use Rattle.model.proofs.Label.{label-input, label-largest}

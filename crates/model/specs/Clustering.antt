@@ -1,8 +1,8 @@
 -- Document 01, "Legal clustering (003, definitions 1 and 2)".
 use Prim.Native.Nat.{ℕ, zero, suc, _+_, _≤_, _<_}
 use mathlib.Core.Path.{_≡_}
-use mathlib.Core.Bool.{Bool, cond}
-use mathlib.Core.List.{List, [], _∷_, map}
+use mathlib.Core.Bool.{cond}
+use mathlib.Core.List.{List, map}
 use lib.Dec.{eqb}
 use Rattle.model.specs.Basics.{_∈_, Largest, Distinct, largest, keep, total, member}
 use Rattle.model.specs.Network.{Network, size, weight, delay, fanins, Input, outputs, position}

@@ -1,7 +1,7 @@
 -- Document 01, "Selection and wiring": inputs of a cluster, the drawn set, the drawn clustering, the output delay.
-use Prim.Native.Nat.{ℕ, zero, suc, _+_, _*_, _/_, _%_, _≤_, _<_}
+use Prim.Native.Nat.{ℕ, zero, suc, _+_, _*_, _/_, _%_}
 use mathlib.Core.Path.{_≡_}
-use mathlib.Core.Bool.{Bool, cond, not}
+use mathlib.Core.Bool.{cond, not}
 use mathlib.Core.List.{List, [], _∷_, map}
 use lib.ListN.{getD, set, replicate}
 use lib.Dec.{ltb}

@@ -1,8 +1,8 @@
 -- Document 01, "Words": gates, networks, primary inputs and outputs, positions.
 use Prim.Native.Nat.{ℕ, _≤_, _<_}
 use mathlib.Core.Path.{_≡_}
-use mathlib.Core.Bool.{Bool, true, false, not}
-use mathlib.Core.List.{List, [], _∷_, map}
+use mathlib.Core.Bool.{Bool, true, false}
+use mathlib.Core.List.{List, [], _∷_}
 use lib.ListN.{length, getD}
 use Rattle.model.specs.Basics.{_∈_, member, keep, upto}
 use Rattle.model.specs.Ceilings.{most-gates, most-fanins, most-weight, most-delay, most-hop, most-capacity}

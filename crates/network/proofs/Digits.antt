@@ -175,10 +175,6 @@ length-words (a ∷ b ∷ bs) (suc k) e = ap suc (length-words bs k (omega arith
 
 -- a number that stands among bytes
 
-pub word-at-head : (w : ℕ) (bs : List ℕ) → w < 65_536 → word-at (word-bytes w ++ bs) 0 ≡ w
-unfolding word-at word-bytes
-word-at-head w bs h = word-of w h
-
 pub long-at-head : (w : ℕ) (bs : List ℕ) → w < 4_294_967_296 → long-at (long-bytes w ++ bs) 0 ≡ w
 unfolding long-at long-bytes
 long-at-head w bs h =

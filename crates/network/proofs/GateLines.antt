@@ -89,11 +89,6 @@ unfolding Stood nothing-read size
 stood first = (refl, refl)
 stood (after {front = front} {p = p} {n = n} {l = l} b clear) = next front n l p clear (stood b)
 
--- after the header and g gates the network has g gates
-pub gates-so-far : {front : List Line} {g : ℕ} {n : Network} → Before front (AfterGates g) n → size n ≡ g
-unfolding Stood
-gates-so-far b = stood b .1
-
 pub gate-line : {ls : List Line} {n : Network} → Before ls Closed n → InLine ls n
 unfolding Stood
 gate-line b = stood b .1

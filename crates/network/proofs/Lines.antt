@@ -28,11 +28,6 @@ pub lines-spelled : (bs rest : List ℕ) → lines (spell-line bs ++ rest) ≡ l
 unfolding spell-line
 lines-spelled bs rest = rw append-assoc (lines-first (gather byte-digits bs) rest (digits-no-feed bs))
 
-pub lines-join : (bss : List (List ℕ)) → lines (join (map spell-line bss)) ≡ map (λ bs. line-of (gather byte-digits bs)) bss
-unfolding join
-lines-join [] = unfold lines in refl
-lines-join (bs ∷ bss) = rw (lines-spelled bs (join (map spell-line bss)), lines-join bss)
-
 -- every line is ended
 abbrev pub AllEnded : List Line → Type 0
 AllEnded [] = Unit {0}

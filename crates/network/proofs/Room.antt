@@ -1,7 +1,7 @@
 -- Laws of specs/Says.antt with rows lent: number 10 is added, after all others.
 use Prim.Native.Nat.{ℕ, _*_}
 use mathlib.Core.Path.{_≡_, refl, _∙_, ap}
-use mathlib.Core.Logic.{_↔_, _⊎_, inl, inr, ⊎-elim}
+use mathlib.Core.Logic.{_⊎_, inl, inr, ⊎-elim}
 use mathlib.Core.Bool.{Bool, true, false, cond, _||_}
 use mathlib.Core.List.{List}
 use native.Mathlib.Omega.{arith}
@@ -76,9 +76,6 @@ module _ (gates : ℕ) (rows : Rows) where
       go (delays h) = is-b (lt-ltb (length (rows .delays)) gates h)
       go (counts h) = is-c (lt-ltb (length (rows .counts)) gates h)
       go (fanins h) = is-d (lt-ltb (length (rows .fanins)) (most-fanins * gates) h)
-
-pub too-short-short : (gates : ℕ) (rows : Rows) → (too-short gates rows ≡ true) ↔ Short gates rows
-too-short-short gates rows = (test-short gates rows, short-test gates rows)
 
 -- reading with rows lent
 

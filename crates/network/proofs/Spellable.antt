@@ -4,7 +4,7 @@ use mathlib.Core.Path.{_≡_, refl, sym, _∙_, ap}
 use mathlib.Core.List.{List}
 use native.Mathlib.Omega.{arith}
 use lib.ListN.{getD, take, drop}
-use Rattle.model.specs.Ceilings.{most-gates, most-fanins, most-capacity, most-hop}
+use Rattle.model.specs.Ceilings.{most-fanins, most-capacity, most-hop}
 use Rattle.model.specs.Network.{Gate, Network, size, gate, weight, delay, fanins, WellFormed, WithinCeilings, Heavy}
 use Rattle.network.specs.declared.Read.{Read}
 use Rattle.network.specs.declared.Read.the-variants as Read

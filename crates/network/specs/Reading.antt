@@ -1,11 +1,11 @@
 -- What every text answers: a network, or one refusal number with its line.
-use Prim.Native.Nat.{ℕ, zero, suc, _+_}
-use mathlib.Core.Bool.{Bool, cond, _||_}
+use Prim.Native.Nat.{ℕ, suc, _+_}
+use mathlib.Core.Bool.{cond}
 use mathlib.Core.List.{List, [], _∷_, _++_}
 use mathlib.Core.Option.{Option, none, some}
 use lib.ListN.{length}
 use lib.Dec.{ltb, eqb}
-use Rattle.model.specs.Network.{Gate, Network, size}
+use Rattle.model.specs.Network.{Gate, Network}
 use Rattle.frames.specs.Text.{Line, lines}
 use Rattle.frames.specs.declared.Place.{Place}
 use Rattle.frames.specs.declared.Place.the-variants.{Opening, AfterGates, Closed}

@@ -1,7 +1,7 @@
 -- A network as rows: the weight, the delay and the fan-in count of each gate, and its fan-ins, eight places a gate.
-use Prim.Native.Nat.{ℕ, zero, suc, _+_, _*_, min}
+use Prim.Native.Nat.{ℕ, suc, _*_, min}
 use mathlib.Core.Bool.{Bool, cond, _||_}
-use mathlib.Core.List.{List, [], _∷_, _++_, map}
+use mathlib.Core.List.{List, [], _∷_, map}
 use lib.ListN.{length, getD, set, take, drop}
 use lib.Seq.{sets}
 use lib.Dec.{ltb}

@@ -10,7 +10,7 @@ ghost use Rattle.frames.specs.Text.{lines};
 ghost use Rattle.frames.specs.Frames.{fan-in-from};
 ghost use Rattle.frames.specs.declared.Place.the-variants.{AfterGates, Closed};
 ghost use Rattle.network.specs.Reading.{reading, walk, weigh};
-ghost use Rattle.network.specs.Rows.{rows-of, too-short, filled};
+ghost use Rattle.network.specs.Rows.{rows-of, filled};
 ghost use Rattle.network.specs.Shown.{shown};
 ghost use Rattle.network.specs.Passes.{refusal-of, heavy-with, Known, header-only, one-more, fan-ins-from, Fits-into};
 ghost use Rattle.network.specs.ReadInto.{ReadInto};

@@ -6,7 +6,6 @@ use lib.Dec.{leb, ltb}
 use Rattle.model.specs.Ceilings.{most-gates, most-fanins, most-weight, most-delay}
 use Rattle.units.specs.declared.Cells.{Cells}
 use Rattle.units.specs.declared.Ticks.{Ticks}
-use Rattle.units.specs.declared.GateNumber.{GateNumber}
 use Rattle.units.specs.declared.FanInCount.{FanInCount}
 use Rattle.units.specs.declared.Weighed.{Weighed}
 use Rattle.units.specs.declared.Weighed.the-variants as weight

@@ -1,5 +1,5 @@
 -- `exports::lykophene_label` meets its contract: it answers the number of what `labelling::label` answers.
-use mathlib.Core.Path.{_≡_, sym, _∙_, ap}
+use mathlib.Core.Path.{sym, _∙_, ap}
 use borrow.Author.Needs.{needs}
 use Rattle.exports.specs.Exported.{number-of}
 use Rattle.exports.proofs.lykophene_label.Statement.{statement}

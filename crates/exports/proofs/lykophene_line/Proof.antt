@@ -1,7 +1,6 @@
 -- `exports::lykophene_line` meets its contract: what `prepare` and `tell` ensure is, by the headline, a line of what the text
 -- answers.
 use mathlib.Core.Path.{ap}
-use native.Mathlib.Omega.{arith}
 use lib.Dec.{lit≤}
 use lib.ListN.{replicate}
 use borrow.Author.Needs.{needs}

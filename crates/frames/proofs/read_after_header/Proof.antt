@@ -1,6 +1,5 @@
 -- `frames::read_after_header` meets its contract: a gate and an end answer for themselves, and anything else is row 3.
 use borrow.Author.Needs.{needs}
-use mathlib.Core.Path.{_∙_}
 use native.Mathlib.Omega.{arith}
 use Rattle.frames.specs.declared.Place.the-variants.{Opening}
 use Rattle.frames.proofs.Formed.{formed}

@@ -1,6 +1,5 @@
 -- `frames::read_end` meets its contract: each answer is a row of the table, or the end frame.
 use borrow.Author.Needs.{needs}
-use mathlib.Core.Path.{sym, _∙_}
 use native.Mathlib.Omega.{arith}
 use Rattle.frames.specs.declared.Place.the-variants.{Opening}
 use Rattle.frames.proofs.Formed.{Formed, formed}

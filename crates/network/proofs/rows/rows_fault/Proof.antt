@@ -4,7 +4,7 @@ use mathlib.Core.Bool.{true, false}
 use borrow.Author.Needs.{needs}
 use Rattle.network.specs.Rows.{Rows, rows-of, too-short}
 use Rattle.network.specs.RowsCheck.{too-long}
-use Rattle.network.proofs.RowLaws.{Room, room}
+use Rattle.network.proofs.RowLaws.{room}
 use Rattle.network.proofs.Faults.{ten-decides, one-decides, gate-decides, eight-decides, nine-decides}
 use Rattle.network.proofs.rows.rows_fault.Statement.{statement}
 use Rattle.network.proofs.rows.rows_fault.Tie as tie
