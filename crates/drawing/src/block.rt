@@ -3,6 +3,7 @@
 use crate::result::line_in_room;
 use crate::result::refusal_line;
 use network::Read;
+use network::TOO_SHORT;
 use network::rows;
 use network::writing::Written;
 ghost use Prim.Native.Nat.{_≤_};
@@ -19,9 +20,6 @@ pub enum Block {
     Lines { count: usize, length: usize },
     Refused { number: u8, line: usize },
 }
-
-// "lent row too short"
-const SHORT: u8 = 10;
 
 // The one line of a refusal; past it nothing.
 pub(crate) fn refusal_lines(index: usize, number: u8, line: usize, out: &mut [u8]) -> Block
@@ -166,7 +164,7 @@ fn lines_in_room(
     );
     let Written::Line(first) = written else {
         return Block::Refused {
-            number: SHORT,
+            number: TOO_SHORT,
             line: 0,
         };
     };

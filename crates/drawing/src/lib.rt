@@ -4,6 +4,7 @@
 // selects, `tell` writes a line of its result, or the one line of its refusal, and `tell_lines` as many as have room.
 use crate::block::Block;
 use network::Read;
+use network::TOO_SHORT;
 use network::reading;
 use network::writing::Written;
 ghost use Rattle.drawing.specs.Prepared.{lent-of, PreparedInto, Told};
@@ -61,7 +62,7 @@ pub fn prepare(
     };
     if text::too_short(gates, weights, delays, counts, fanins, labels, marks) {
         return Prepared::Refused {
-            number: 10,
+            number: TOO_SHORT,
             line: 0,
         };
     }

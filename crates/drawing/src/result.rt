@@ -5,6 +5,7 @@ use crate::selection::members_of;
 use crate::selection::nth_marked;
 use crate::selection::output_delay;
 use network::Read;
+use network::TOO_SHORT;
 use network::rows;
 use network::writing::Written;
 use network::writing::put_byte;
@@ -23,9 +24,6 @@ ghost use Rattle.drawing.specs.Result.{result-bytes, label-bytes, cluste
 ghost use Rattle.drawing.specs.Selection.{roots};
 ghost use Rattle.drawing.specs.Drawn.{standing, Ready, later-lines, LineAnswered};
 
-// "lent row too short"
-const SHORT: u8 = 10;
-
 // The line feed, put past a line's digits.
 fn feed(out: &mut [u8], at: usize) -> Written
     requires { ⌜ at < length (now out) ⌝ }
@@ -41,7 +39,7 @@ fn result_line(delay: u32, clusters: u16, out: &mut [u8]) -> Written
 {
     if out.len() < 15 {
         return Written::Refused {
-            number: SHORT,
+            number: TOO_SHORT,
             line: 0,
         };
     }
@@ -57,7 +55,7 @@ fn label_line(gate: u16, label: u32, out: &mut [u8]) -> Written
 {
     if out.len() < 15 {
         return Written::Refused {
-            number: SHORT,
+            number: TOO_SHORT,
             line: 0,
         };
     }
@@ -74,7 +72,7 @@ fn cluster_line(root: u16, members: &[u16], out: &mut [u8]) -> Written
 {
     if out.len() < 11 + 4 * members.len() {
         return Written::Refused {
-            number: SHORT,
+            number: TOO_SHORT,
             line: 0,
         };
     }
@@ -91,7 +89,7 @@ fn end_line(gates: u16, out: &mut [u8]) -> Written
 {
     if out.len() < 7 {
         return Written::Refused {
-            number: SHORT,
+            number: TOO_SHORT,
             line: 0,
         };
     }
@@ -107,7 +105,7 @@ pub fn refusal_line(number: u8, line: usize, out: &mut [u8]) -> Written
 {
     if out.len() < 9 {
         return Written::Refused {
-            number: SHORT,
+            number: TOO_SHORT,
             line: 0,
         };
     }
@@ -217,7 +215,7 @@ pub(crate) fn line_in_room(
 {
     if labels.len() < gates || marks.len() < gates {
         return Written::Refused {
-            number: SHORT,
+            number: TOO_SHORT,
             line: 0,
         };
     }

@@ -3,6 +3,7 @@
 use crate::Drawing;
 use labelling::Clustered;
 use network::Read;
+use network::TOO_SHORT;
 use network::rows;
 use units::FanInCount;
 use units::GateNumber;
@@ -31,9 +32,6 @@ ghost use Rattle.drawing.specs.Selection.{
   Found,
 };
 ghost use Rattle.drawing.specs.Drawn.{standing, Ready, DrawingAnswered};
-
-// "lent row too short"
-const SHORT: u8 = 10;
 
 // A mark for each gate.
 type Marks = [u8; GateNumber::MOST_GATES];
@@ -350,7 +348,7 @@ fn draw_in_room(
 {
     if labels.len() < gates || marks.len() < gates {
         return Drawing::Refused {
-            number: SHORT,
+            number: TOO_SHORT,
             line: 0,
         };
     }

@@ -2,6 +2,7 @@
 use crate::Prepared;
 use crate::selection;
 use network::Read;
+use network::TOO_SHORT;
 use network::reading;
 use units::FanInCount;
 ghost use mathlib.Core.Path.{_≡_};
@@ -15,7 +16,7 @@ pub(crate) fn refusal(read: Read) -> Prepared
     let Read::Refused { number, line } = read else {
         // never: asked only of a refusal
         return Prepared::Refused {
-            number: 10,
+            number: TOO_SHORT,
             line: 0,
         };
     };

@@ -52,25 +52,25 @@ pub enum LineRead {
 
 // The refusal numbers that one line can give, lowest first. An empty line, a bad digit, an odd digit count, or a last
 // line that is not ended:
-const MALFORMED: u8 = 2;
+pub const MALFORMED: u8 = 2;
 
 // An unknown or misplaced type:
-const MISPLACED: u8 = 3;
+pub const MISPLACED: u8 = 3;
 
 // A frame length wrong for its type or count, or a count above 8:
-const WRONG_LENGTH: u8 = 4;
+pub const WRONG_LENGTH: u8 = 4;
 
 // A 513th gate:
-const ONE_TOO_MANY: u8 = 5;
+pub const ONE_TOO_MANY: u8 = 5;
 
 // A fan-in not rising or not below its gate:
-const UNORDERED: u8 = 6;
+pub const UNORDERED: u8 = 6;
 
 // An 0F count that differs:
-const MISCOUNTED: u8 = 7;
+pub const MISCOUNTED: u8 = 7;
 
 // An 0F with no gates before it:
-const NO_GATES: u8 = 8;
+pub const NO_GATES: u8 = 8;
 
 // What a byte counts for that is no digit.
 const NO_DIGIT: u8 = 16;

@@ -9,6 +9,15 @@ pub mod writing;
 // "Text 24,576 bytes."
 const MOST_TEXT: usize = 24_576;
 
+// The refusal numbers that concern more than one line; those of a line are in the crate frames. A text above its ceiling:
+pub const TOO_LONG: u8 = 1;
+
+// A gate heavier than M:
+pub const TOO_HEAVY: u8 = 9;
+
+// A lent row too short for the network, or for what was asked to be written:
+pub const TOO_SHORT: u8 = 10;
+
 // What a text, or rows handed over, answer.
 pub enum Read {
     // the number of gates, the capacity M in cells and the hop delay D in ticks; the gates stand in the rows

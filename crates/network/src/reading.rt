@@ -16,8 +16,12 @@ ghost use Rattle.network.specs.Passes.{refusal-of, heavy-with, Known, he
 ghost use Rattle.network.specs.ReadInto.{ReadInto};
 use crate::MOST_TEXT;
 use crate::Read;
+use crate::TOO_HEAVY;
+use crate::TOO_LONG;
+use crate::TOO_SHORT;
 use crate::rows::too_short;
 use frames::LineRead;
+use frames::MISPLACED;
 use frames::Place;
 use units::Cells;
 use units::FanInCount;
@@ -29,7 +33,7 @@ fn refusal(read: LineRead, missing: usize) -> Read
 {
     let LineRead::Refused { number, line } = read else {
         return Read::Refused {
-            number: 3,
+            number: MISPLACED,
             line: missing,
         };
     };
@@ -90,7 +94,7 @@ fn look_end(text: &[u8], at: usize, seen: Seen) -> Read
     let heavy = seen.heavy;
     if heavy != 0 {
         return Read::Refused {
-            number: 9,
+            number: TOO_HEAVY,
             line: heavy,
         };
     }
@@ -140,7 +144,10 @@ pub fn look(text: &[u8]) -> Read
     ensures { λ r. ⌜ r ≡ shown (reading (now (text .entry))) ⌝ }
 {
     if MOST_TEXT < text.len() {
-        return Read::Refused { number: 1, line: 0 };
+        return Read::Refused {
+            number: TOO_LONG,
+            line: 0,
+        };
     }
     let read = frames::read_line(text, 0, Place::Opening, 1);
     let LineRead::Header {
@@ -231,7 +238,7 @@ pub fn read(
     };
     if too_short(gates, weights, delays, counts, fanins) {
         return Read::Refused {
-            number: 10,
+            number: TOO_SHORT,
             line: 0,
         };
     }

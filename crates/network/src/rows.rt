@@ -2,6 +2,13 @@
 // for in document 01's order, and the first one found decides; rows without fault are a network.
 use crate::MOST_TEXT;
 use crate::Read;
+use crate::TOO_HEAVY;
+use crate::TOO_LONG;
+use crate::TOO_SHORT;
+use frames::NO_GATES;
+use frames::ONE_TOO_MANY;
+use frames::UNORDERED;
+use frames::WRONG_LENGTH;
 use units::Cells;
 use units::Counted;
 use units::FanInCount;
@@ -111,17 +118,26 @@ fn gate_fault(gate: usize, count: u8, fanins: &[u16]) -> Fault
 {
     let line = gate + FIRST_GATE;
     let Counted::Made(fan_ins) = FanInCount::new(count as usize) else {
-        return Fault::At { number: 4, line };
+        return Fault::At {
+            number: WRONG_LENGTH,
+            line,
+        };
     };
     let Numbered::Made(number) = GateNumber::new(gate) else {
-        return Fault::At { number: 5, line };
+        return Fault::At {
+            number: ONE_TOO_MANY,
+            line,
+        };
     };
     let from = FanInCount::MOST * number.0;
     let to = from + fan_ins.0;
     if rising(&fanins[from..to], number.0) {
         Fault::None
     } else {
-        Fault::At { number: 6, line }
+        Fault::At {
+            number: UNORDERED,
+            line,
+        }
     }
 }
 
@@ -150,7 +166,7 @@ fn heavy_fault(gate: usize, weight: Cells, capacity: Cells) -> Fault
         Fault::None
     } else {
         Fault::At {
-            number: 9,
+            number: TOO_HEAVY,
             line: gate + FIRST_GATE,
         }
     }
@@ -185,12 +201,15 @@ fn rows_fault(
 {
     if too_short(gates, weights, delays, counts, fanins) {
         return Fault::At {
-            number: 10,
+            number: TOO_SHORT,
             line: 0,
         };
     }
     if too_long(gates, counts) {
-        return Fault::At { number: 1, line: 0 };
+        return Fault::At {
+            number: TOO_LONG,
+            line: 0,
+        };
     }
     let fault = first_fault(gates, counts, fanins);
     let Fault::None = fault else {
@@ -198,7 +217,7 @@ fn rows_fault(
     };
     if gates == 0 {
         return Fault::At {
-            number: 8,
+            number: NO_GATES,
             line: FIRST_GATE,
         };
     }

@@ -2,6 +2,7 @@
 // were handed or, without room for it, nothing. On them stand the lines of a network that is handed over as rows: the
 // header, a line a gate, the end. A row too short for a line answers 10 and is left as it was.
 use crate::Read;
+use crate::TOO_SHORT;
 use crate::rows;
 use units::FanInCount;
 ghost use mathlib.Core.Path.{_≡_};
@@ -19,9 +20,6 @@ pub enum Written {
     Line(usize),
     Refused { number: u8, line: usize },
 }
-
-// "lent row too short"
-const SHORT: u8 = 10;
 
 // The digit that says d.
 fn figure(d: u8) -> u8
@@ -113,7 +111,7 @@ fn spell_header(capacity: u32, hop: u16, out: &mut [u8]) -> Written
 {
     if out.len() < 15 {
         return Written::Refused {
-            number: SHORT,
+            number: TOO_SHORT,
             line: 0,
         };
     }
@@ -129,7 +127,7 @@ fn spell_end(gates: u16, out: &mut [u8]) -> Written
 {
     if out.len() < 7 {
         return Written::Refused {
-            number: SHORT,
+            number: TOO_SHORT,
             line: 0,
         };
     }
@@ -156,7 +154,7 @@ fn spell_gate(
     let number = count as usize;
     if out.len() < 13 + 4 * number {
         return Written::Refused {
-            number: SHORT,
+            number: TOO_SHORT,
             line: 0,
         };
     }
