@@ -1,33 +1,29 @@
 // Reads one network's text from standard input and prints its result, or the one frame of its refusal, a block of lines at a
-// time.
-// What every text answers is decided in the crates below; here is the reading, the printing and the room for both.
+// time. What every text answers is decided in the crates below; here is the reading, the printing and the room for both.
 use drawing::Prepared;
 use drawing::block::Block;
 use units::FanInCount;
 use units::GateNumber;
+ghost use Prim.Native.Nat.{_+_, _*_, _-_, _≤_};
+ghost use lib.ListN.{length};
+ghost use Rattle.model.specs.Ceilings.{most-gates};
 
 // One byte more than a text may have, so that a longer one is seen to be longer.
-const TEXT: usize = 24_577;
+const TEXT: usize = network::MOST_TEXT + 1;
 
 // A block of lines. The longest line has 2,059 bytes, so that a block has a line wherever one is left; the rows are looked at
 // once a block.
 const BLOCK: usize = 8_192;
 
-// A result of 512 gates has at most so many lines: one, a label a gate, a cluster a gate, one.
-const LINES: usize = 1_026;
-
-// The first bytes of a row printed; whether there were any.
-fn show(out: &[u8], length: usize) -> bool {
-    if length == 0 {
-        return false;
-    }
-    if out.len() < length {
-        return false;
-    }
-    io::write_all(1, &out[..length])
+// The first bytes of a row printed; whether they are.
+fn show(out: &[u8], bytes: usize) -> bool
+    requires { ⌜ bytes ≤ length (now out) ⌝ }
+{
+    io::write_all(1, &out[..bytes])
 }
 
-// The lines from that index on that have room in a block, printed; how many.
+// The lines from that index on that have room in a block, printed; how many, 0 past the last line and where they cannot be
+// printed. A result has at most one line, a label a gate, a cluster a gate and one more.
 fn print_block(
     prepared: Prepared,
     index: usize,
@@ -37,7 +33,9 @@ fn print_block(
     fanins: &[u16],
     labels: &[u32],
     marks: &[u8],
-) -> usize {
+) -> usize
+    ensures { λ r. ⌜ r ≤ 2 + 2 * most-gates - index ⌝ }
+{
     let mut out = [0; BLOCK];
     let told = drawing::tell_lines(
         prepared,
@@ -70,7 +68,7 @@ fn print(
     marks: &[u8],
 ) {
     let mut index = 0;
-    while index < LINES {
+    loop {
         let count = print_block(
             prepared,
             index,
@@ -82,11 +80,7 @@ fn print(
             marks,
         );
         if count == 0 {
-            return;
-        }
-        if LINES - index < count {
-            // never: no result has more lines
-            return;
+            break;
         }
         index += count;
     }

@@ -7,7 +7,7 @@ pub mod rows;
 pub mod writing;
 
 // "Text 24,576 bytes."
-const MOST_TEXT: usize = 24_576;
+pub const MOST_TEXT: usize = 24_576;
 
 // The refusal numbers that concern more than one line; those of a line are in the crate frames. A text above its ceiling:
 pub const TOO_LONG: u8 = 1;

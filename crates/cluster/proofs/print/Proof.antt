@@ -1,4 +1,4 @@
--- `cluster::print` ends: each block has a line or is the last, and the index goes up to the most lines that a result has.
+-- `cluster::print` ends: a block that is not the last has a line, and no block goes past the most lines that a result has.
 use Prim.Native.Nat.{_≤_, _-_}
 use native.Mathlib.Omega.{arith}
 use borrow.Author.Needs.{needs}
@@ -17,15 +17,6 @@ loop-holds c = omega arith
 print-block-requires : tie.Need-print-block-requires Inv-loop μ-loop
 print-block-requires c κs = search needs
 
-returns : tie.Need-returns Inv-loop μ-loop
-returns c = search needs
-
-sub-if2 : tie.Need-sub-if2 Inv-loop μ-loop
-sub-if2 c = omega arith
-
-returns-2 : tie.Need-returns-2 Inv-loop μ-loop
-returns-2 c = search needs
-
 add-index : tie.Need-add-index Inv-loop μ-loop
 add-index c = omega arith
 
@@ -35,21 +26,8 @@ loop-less c = omega arith
 loop-again : tie.Need-loop-again Inv-loop μ-loop
 loop-again c = omega arith
 
-returns-3 : tie.Need-returns-3 Inv-loop μ-loop
-returns-3 c = search needs
+returns : tie.Need-returns Inv-loop μ-loop
+returns c = search needs
 
 pub print-spec : {M : Type 1} → statement M
-print-spec =
-    tie.close
-    (tie.spec
-    Inv-loop
-    μ-loop
-    loop-holds
-    print-block-requires
-    returns
-    sub-if2
-    returns-2
-    add-index
-    loop-less
-    loop-again
-    returns-3)
+print-spec = tie.close (tie.spec Inv-loop μ-loop loop-holds print-block-requires add-index loop-less loop-again returns)

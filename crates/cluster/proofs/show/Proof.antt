@@ -6,20 +6,14 @@ use borrow.Author.Needs.{needs}
 use Rattle.cluster.proofs.show.Statement.{statement}
 use Rattle.cluster.proofs.show.Tie as tie
 
-returns : tie.Need-returns
-returns c = search needs
-
-returns-2 : tie.Need-returns-2
-returns-2 c = search needs
-
 slice-aggregate-write-all : tie.Need-slice-aggregate-write-all
 slice-aggregate-write-all c = sym (length-take-le _ _ (omega arith))
 
 write-all-requires : tie.Need-write-all-requires
 write-all-requires c κs = search needs
 
-returns-3 : tie.Need-returns-3
-returns-3 c = search needs
+returns : tie.Need-returns
+returns c = search needs
 
 pub show-spec : {M : Type 1} → statement M
-show-spec = tie.close (tie.spec returns returns-2 slice-aggregate-write-all write-all-requires returns-3)
+show-spec = tie.close (tie.spec slice-aggregate-write-all write-all-requires returns)
