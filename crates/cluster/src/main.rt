@@ -7,6 +7,7 @@ use units::GateNumber;
 ghost use Prim.Native.Nat.{_+_, _*_, _-_, _≤_};
 ghost use lib.ListN.{length};
 ghost use Rattle.model.specs.Ceilings.{most-gates};
+ghost use Rattle.drawing.specs.Demands.{most-line};
 
 // One byte more than a text may have, so that a longer one is seen to be longer.
 const TEXT: usize = network::MOST_TEXT + 1;
@@ -15,9 +16,10 @@ const TEXT: usize = network::MOST_TEXT + 1;
 // once a block.
 const BLOCK: usize = 8_192;
 
-// The first bytes of a row printed; whether they are.
+// The first bytes of a block printed; whether they are. A block has room for the longest line, so that telling one is never
+// refused for want of room.
 fn show(out: &[u8], bytes: usize) -> bool
-    requires { ⌜ bytes ≤ length (now out) ⌝ }
+    requires { ⌜ (bytes ≤ length (now out)) × (most-line ≤ length (now out)) ⌝ }
 {
     io::write_all(1, &out[..bytes])
 }

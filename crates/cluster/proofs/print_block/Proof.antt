@@ -26,7 +26,7 @@ slice-aggregate-show c = search needs
 show-requires : tie.Need-show-requires
 show-requires c κs =
     let told = c .before .before in
-    omega (arith, told-bounds _ (told .before .before .before .tell-lines .ensures) (told .told .given .1) .1)
+    (omega (arith, told-bounds _ (told .before .before .before .tell-lines .ensures) (told .told .given .1) .1), omega arith)
 
 returns-2 : tie.Need-returns-2
 returns-2 c = search needs
