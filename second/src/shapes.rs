@@ -4,7 +4,7 @@ use std::time::{Duration, Instant};
 
 use crate::rng::Rng;
 use crate::rules::{Gate, Network, MOST_FANINS, MOST_GATES};
-use crate::steps::Rows;
+use crate::steps::{InRow, PLACES};
 use crate::{sorted, steps};
 
 #[derive(Clone, Copy, Debug)]
@@ -42,58 +42,37 @@ pub fn network(shape: Shape, gates: usize, capacity: u32) -> Network {
     network
 }
 
-/// The rows of a network, as the baselines take them.
+/// A network in its row, as the baselines take it.
 pub struct Owned {
     capacity: u32,
     hop: u16,
     gates: usize,
-    weights: [u16; MOST_GATES],
-    delays: [u16; MOST_GATES],
-    counts: [u8; MOST_GATES],
-    fanins: [u16; MOST_GATES * MOST_FANINS],
+    row: [u16; PLACES * MOST_GATES],
 }
 
 impl Owned {
     pub fn of(network: &Network) -> Owned {
-        let mut owned = Owned {
-            capacity: network.capacity,
-            hop: network.hop,
-            gates: network.gates.len(),
-            weights: [0; MOST_GATES],
-            delays: [0; MOST_GATES],
-            counts: [0; MOST_GATES],
-            fanins: [0; MOST_GATES * MOST_FANINS],
-        };
-        for (number, gate) in network.gates.iter().enumerate() {
-            owned.weights[number] = gate.weight;
-            owned.delays[number] = gate.delay;
-            owned.counts[number] = gate.fanins.len() as u8;
-            let first = number * MOST_FANINS;
-            owned.fanins[first..first + gate.fanins.len()].copy_from_slice(&gate.fanins);
+        let mut row = [0; PLACES * MOST_GATES];
+        for (gate, block) in network.gates.iter().zip(row.chunks_exact_mut(PLACES)) {
+            block[0] = gate.weight;
+            block[1] = gate.delay;
+            block[2] = gate.fanins.len() as u16;
+            block[3..3 + gate.fanins.len()].copy_from_slice(&gate.fanins);
         }
-        owned
+        Owned { capacity: network.capacity, hop: network.hop, gates: network.gates.len(), row }
     }
 
-    pub fn rows(&self) -> Rows<'_> {
-        Rows {
-            capacity: self.capacity,
-            hop: self.hop,
-            gates: self.gates,
-            weights: &self.weights,
-            delays: &self.delays,
-            counts: &self.counts,
-            fanins: &self.fanins,
-        }
+    pub fn in_row(&self) -> InRow<'_> {
+        InRow { capacity: self.capacity, hop: self.hop, gates: self.gates, row: &self.row }
     }
 }
 
-type Label = fn(u32, u16, usize, &[u16], &[u16], &[u8], &[u16], &mut [u32]);
+type Label = fn(&InRow, &mut [u32]);
 
-/// The labels that a baseline gives a network in rows.
-pub fn labels(label: Label, rows: &Rows) -> [u32; MOST_GATES] {
+/// The labels that a baseline gives a network in its row.
+pub fn labels(label: Label, network: &InRow) -> [u32; MOST_GATES] {
     let mut labels = [0; MOST_GATES];
-    let Rows { capacity, hop, gates, weights, delays, counts, fanins } = *rows;
-    label(capacity, hop, gates, weights, delays, counts, fanins, &mut labels);
+    label(network, &mut labels);
     labels
 }
 
@@ -103,61 +82,34 @@ pub fn opaque<T: Copy>(value: T) -> T {
     unsafe { std::ptr::read_volatile(&value) }
 }
 
-fn time(label: Label, rows: &Rows) -> Duration {
+fn time(label: Label, network: &InRow) -> Duration {
     let start = Instant::now();
-    opaque(labels(label, &opaque(*rows)));
+    opaque(labels(label, &opaque(*network)));
     start.elapsed()
 }
 
 /// The labelling under test, linked from the static library.
 #[cfg(feature = "bench")]
 mod proved {
+    use crate::steps::InRow;
+
     extern "C" {
         fn lykophene_label(
             capacity: u32,
             hop: u16,
             gates: usize,
-            weights: *const u16,
-            weights_len: usize,
-            delays: *const u16,
-            delays_len: usize,
-            counts: *const u8,
-            counts_len: usize,
-            fanins: *const u16,
-            fanins_len: usize,
+            row: *const u16,
+            row_len: usize,
             labels: *mut u32,
             labels_len: usize,
         ) -> u8;
     }
 
-    #[allow(clippy::too_many_arguments)]
-    pub fn label(
-        capacity: u32,
-        hop: u16,
-        gates: usize,
-        weights: &[u16],
-        delays: &[u16],
-        counts: &[u8],
-        fanins: &[u16],
-        labels: &mut [u32],
-    ) {
+    pub fn label(network: &InRow, labels: &mut [u32]) {
+        let InRow { capacity, hop, gates, row } = *network;
         // The function requires nothing of its arguments, and writes only within the slice of labels.
         let refusal = unsafe {
-            lykophene_label(
-                capacity,
-                hop,
-                gates,
-                weights.as_ptr(),
-                weights.len(),
-                delays.as_ptr(),
-                delays.len(),
-                counts.as_ptr(),
-                counts.len(),
-                fanins.as_ptr(),
-                fanins.len(),
-                labels.as_mut_ptr(),
-                labels.len(),
-            )
+            lykophene_label(capacity, hop, gates, row.as_ptr(), row.len(), labels.as_mut_ptr(), labels.len())
         };
         assert_eq!(refusal, 0, "an accepted network");
     }
@@ -210,14 +162,14 @@ pub fn times() -> String {
 /// The time of each labelling of a network, in microseconds: the shortest of many runs, taken in turns. All have to give
 /// the same labels.
 fn labelled(timed: &[(&str, Label)], owned: &Owned) -> Vec<f64> {
-    let expected = labels(steps::label, &owned.rows());
+    let expected = labels(steps::label, &owned.in_row());
     for (name, label) in timed {
-        assert_eq!(labels(*label, &owned.rows()), expected, "{name} gives other labels");
+        assert_eq!(labels(*label, &owned.in_row()), expected, "{name} gives other labels");
     }
     let mut best = vec![Duration::MAX; timed.len()];
     for _ in 0..50 {
         for ((_, label), best) in timed.iter().zip(&mut best) {
-            *best = time(*label, &owned.rows()).min(*best);
+            *best = time(*label, &owned.in_row()).min(*best);
         }
     }
     best.iter().map(|time| time.as_secs_f64() * 1e6).collect()
@@ -232,7 +184,7 @@ mod tests {
         let owned = Owned::of(network);
         let plain = plain::labelling(network).labels;
         for label in [steps::label as Label, sorted::label] {
-            let labels = labels(label, &owned.rows());
+            let labels = labels(label, &owned.in_row());
             assert!(labels.iter().zip(&plain).all(|(&label, &plain)| label as usize == plain));
         }
     }

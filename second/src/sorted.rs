@@ -1,24 +1,14 @@
 //! The other baseline for speed: a labelling that sorts with the standard library.
 
-use crate::rules::{MOST_FANINS, MOST_GATES};
+use crate::rules::MOST_GATES;
+use crate::steps::InRow;
 
-/// The rows are those of `steps::label`.
-#[allow(clippy::too_many_arguments)]
-pub fn label(
-    capacity: u32,
-    hop: u16,
-    gates: usize,
-    weights: &[u16],
-    delays: &[u16],
-    counts: &[u8],
-    fanins: &[u16],
-    labels: &mut [u32],
-) {
+pub fn label(network: &InRow, labels: &mut [u32]) {
     let mut order: Vec<(u64, usize)> = Vec::with_capacity(MOST_GATES);
     let mut onward: Vec<Option<u32>> = Vec::with_capacity(MOST_GATES);
-    for root in 0..gates {
-        if counts[root] == 0 {
-            labels[root] = delays[root].into();
+    for root in 0..network.gates {
+        if network.is_input(root) {
+            labels[root] = network.delay(root).into();
             continue;
         }
         onward.clear();
@@ -30,9 +20,8 @@ pub fn label(
                 Some(delay) => delay,
                 None => continue,
             };
-            let through = Some(delay + u32::from(delays[gate]));
-            let first = MOST_FANINS * gate;
-            for &fanin in &fanins[first..first + usize::from(counts[gate])] {
+            let through = Some(delay + u32::from(network.delay(gate)));
+            for &fanin in network.fanins(gate) {
                 let entry = &mut onward[usize::from(fanin)];
                 *entry = (*entry).max(through);
             }
@@ -41,15 +30,15 @@ pub fn label(
             }
         }
         order.sort_unstable_by(|a, b| b.cmp(a));
-        let mut weight = u64::from(weights[root]);
+        let mut weight = u64::from(network.weight(root));
         let mut largest = 0;
         for &(pull, gate) in &order {
-            weight += u64::from(weights[gate]);
-            if weight > u64::from(capacity) {
-                largest = largest.max(pull + u64::from(hop));
+            weight += u64::from(network.weight(gate));
+            if weight > u64::from(network.capacity) {
+                largest = largest.max(pull + u64::from(network.hop));
                 break;
             }
-            if counts[gate] == 0 {
+            if network.is_input(gate) {
                 largest = largest.max(pull);
             }
         }

@@ -1,8 +1,7 @@
 // Reads one network's text from standard input and prints its result, or the one frame of its refusal, a block of lines at a
 // time. What every text answers is decided in the crates below; here is the reading, the printing and the room for both.
-use drawing::Prepared;
-use drawing::block::Block;
-use units::FanInCount;
+use results::block::Block;
+use rows::Read;
 use units::GateNumber;
 ghost use Prim.Native.Nat.{_+_, _*_, _-_, _≤_};
 ghost use lib.ListN.{length};
@@ -10,9 +9,9 @@ ghost use Rattle.model.specs.Ceilings.{most-gates};
 ghost use Rattle.drawing.specs.Demands.{most-line};
 
 // One byte more than a text may have, so that a longer one is seen to be longer.
-const TEXT: usize = network::MOST_TEXT + 1;
+const TEXT: usize = frames::MOST_TEXT + 1;
 
-// A block of lines. The longest line has 2,059 bytes, so that a block has a line wherever one is left; the rows are looked at
+// A block of lines. The longest line has 2,059 bytes, so that a block has a line wherever one is left; the row is looked at
 // once a block.
 const BLOCK: usize = 8_192;
 
@@ -26,30 +25,11 @@ fn show(out: &[u8], bytes: usize) -> bool
 
 // The lines from that index on that have room in a block, printed; how many, 0 past the last line and where they cannot be
 // printed. A result has at most one line, a label a gate, a cluster a gate and one more.
-fn print_block(
-    prepared: Prepared,
-    index: usize,
-    weights: &[u16],
-    delays: &[u16],
-    counts: &[u8],
-    fanins: &[u16],
-    labels: &[u32],
-    marks: &[u8],
-) -> usize
+fn print_block(prepared: Read, index: usize, row: &[u16], labels: &[u32], marks: &[u8]) -> usize
     ensures { λ r. ⌜ r ≤ 2 + 2 * most-gates - index ⌝ }
 {
     let mut out = [0; BLOCK];
-    let told = drawing::tell_lines(
-        prepared,
-        index,
-        weights,
-        delays,
-        counts,
-        fanins,
-        labels,
-        marks,
-        &mut out,
-    );
+    let told = drawing::tell_lines(prepared, index, row, labels, marks, &mut out);
     let Block::Lines { count, length } = told else {
         return 0;
     };
@@ -60,27 +40,10 @@ fn print_block(
 }
 
 // Every line printed, from the first to the last.
-fn print(
-    prepared: Prepared,
-    weights: &[u16],
-    delays: &[u16],
-    counts: &[u8],
-    fanins: &[u16],
-    labels: &[u32],
-    marks: &[u8],
-) {
+fn print(prepared: Read, row: &[u16], labels: &[u32], marks: &[u8]) {
     let mut index = 0;
     loop {
-        let count = print_block(
-            prepared,
-            index,
-            weights,
-            delays,
-            counts,
-            fanins,
-            labels,
-            marks,
-        );
+        let count = print_block(prepared, index, row, labels, marks);
         if count == 0 {
             break;
         }
@@ -90,30 +53,11 @@ fn print(
 
 // The answer to a text, printed.
 fn answer(text: &[u8]) {
-    let mut weights = [0u16; GateNumber::MOST_GATES];
-    let mut delays = [0u16; GateNumber::MOST_GATES];
-    let mut counts = [0u8; GateNumber::MOST_GATES];
-    let mut fanins = [0u16; GateNumber::MOST_GATES * FanInCount::MOST];
+    let mut row = [0u16; rows::PLACES * GateNumber::MOST_GATES];
     let mut labels = [0u32; GateNumber::MOST_GATES];
     let mut marks = [0u8; GateNumber::MOST_GATES];
-    let prepared = drawing::prepare(
-        text,
-        &mut weights,
-        &mut delays,
-        &mut counts,
-        &mut fanins,
-        &mut labels,
-        &mut marks,
-    );
-    print(
-        prepared,
-        &weights,
-        &delays,
-        &counts,
-        &fanins,
-        &labels,
-        &marks,
-    );
+    let prepared = drawing::prepare(text, &mut row, &mut labels, &mut marks);
+    print(prepared, &row, &labels, &marks);
 }
 
 fn main() {

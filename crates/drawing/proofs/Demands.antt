@@ -1,65 +1,73 @@
 -- The three demands hold of every text.
-use Prim.Native.Nat.{ℕ, zero, suc, _+_, _*_, _≤_}
+use Prim.Native.Nat.{ℕ, suc, _+_, _*_, _≤_}
 use mathlib.Core.Path.{_≡_, refl, ap}
 use mathlib.Core.Logic.{_⊎_, inl, inr, ⊎-elim}
-use mathlib.Core.Bool.{Bool, true, false, _&&_}
+use mathlib.Core.Bool.{Bool, true, _&&_}
 use mathlib.Core.List.{List, [], _∷_, _++_, map, List·Memᴰ, List·Memᴰ·not-nil, List·Memᴰ·cases-cons, List·Memᴰ·append-cases, List·Memᴰ·eq-of-singleton}
 use mathlib.Core.Option.{Option, none, some}
 use native.Mathlib.Omega.{arith}
-use lib.ListN.{length, getD, length-append, length-map}
+use lib.ListN.{length, getD, length-append}
 use borrow.Author.Tests.{leb-true}
 use lib.Dec.{leb, ltb}
-use Rattle.model.specs.Basics.{upto, keep, gather, member}
+use Rattle.model.specs.Basics.{upto, member}
 use Rattle.model.specs.Ceilings.{most-gates}
 use Rattle.model.specs.Network.{Network, size, WellFormed}
 use Rattle.model.specs.Label.{labels, label, cluster}
 use Rattle.model.specs.Drawing.{marks, drawn, members, output-delay}
 use Rattle.model.specs.Best.{SomeHeavy}
 use Rattle.model.proofs.Best.{best, least-delay}
-use Rattle.model.proofs.Lists.{true-or-false, in-keep, keep-in, in-upto, member-true, true-member}
+use Rattle.model.proofs.Lists.{in-keep, keep-in, in-upto, member-true, true-member}
 use Rattle.model.proofs.Label.{label-input, label-largest}
 use Rattle.model.proofs.Growth.{grows}
 use Rattle.model.proofs.UpperBound.{member-known, member-position}
 use Rattle.model.proofs.Drawn.{drawn-is}
 use Rattle.model.proofs.CopyDelay.{output-delay-is}
-use Rattle.frames.specs.Text.{Line, lines, line-feed}
+use Rattle.frames.specs.Text.{Line, lines}
 use Rattle.frames.specs.Table.{Row, table}
+use Rattle.frames.specs.declared.Refusal.{Refusal}
+use Rattle.frames.specs.Refusal.{at-line}
 use Rattle.frames.specs.Fault.{Given}
-use Rattle.network.specs.Reading.{Reading, refused, network, reading, first-heavy}
-use Rattle.network.specs.Says.{Says, too-long, faulty-line, no-end, too-heavy, SaysRoom, of-text, short-row}
-use Rattle.network.specs.Rows.{Rows, answer, filled}
-use Rattle.network.specs.Spelling.{byte-digits, spell-line, word-bytes, long-bytes}
-use Rattle.network.proofs.Table.{reading-exactly, walk-whole}
-use Rattle.network.proofs.Room.{answer-exactly}
-use Rattle.network.proofs.Heavy.{heavy-told, heavy-none}
-use Rattle.network.proofs.GateLines.{line-count}
-use Rattle.network.proofs.Digits.{length-digits, length-word-bytes}
-use Rattle.network.proofs.Accepted.{walked}
-use Rattle.network.proofs.AcceptedNetwork.{fit-well-formed, accepted-well-formed, accepted-within-ceilings, accepted-not-heavy}
-use Rattle.network.proofs.RoundTrip.{read-written}
-use Rattle.drawing.specs.Result.{answer-lines, lines-told, network-result, result-lines, delay-from, result-bytes, label-bytes, cluster-bytes, result-end-bytes, refusal-bytes}
+use Rattle.frames.proofs.Fault.{given-listed}
+use Rattle.frames.proofs.Tests.{never, both-true}
+use Rattle.texts.specs.Reading.{Reading, refused, network, reading, first-heavy}
+use Rattle.texts.specs.Says.{Says, too-long, faulty-line, no-end, too-heavy}
+use Rattle.frames.specs.Digits.{spell-line, word-bytes, long-bytes}
+use Rattle.texts.proofs.Table.{reading-exactly, walk-whole}
+use Rattle.texts.proofs.Heavy.{heavy-told, heavy-none}
+use Rattle.texts.proofs.GateLines.{line-count}
+use Rattle.frames.proofs.Digits.{length-word-bytes}
+use Rattle.texts.proofs.Accepted.{walked}
+use Rattle.texts.proofs.AcceptedNetwork.{fit-well-formed, accepted-well-formed, accepted-within-ceilings, accepted-not-heavy}
+use Rattle.rows.specs.Says.{SaysRoom, of-text, short-row}
+use Rattle.rows.specs.Read.{answer, filled}
+use Rattle.rows.proofs.Room.{answer-exactly}
+use Rattle.rows.proofs.RoundTrip.{read-written}
+use Rattle.selection.specs.Selection.{delay-from}
+use Rattle.results.specs.Result.{result-lines, result-bytes, label-bytes, cluster-bytes, result-end-bytes, refusal-bytes}
+use Rattle.results.proofs.Lengths.{keep-shorter, length-upto, members-few, line-length, result-count}
+use Rattle.drawing.specs.Answer.{answer-lines, lines-told, network-result}
 use Rattle.drawing.specs.Demands.{most-line, Finished, Faithful, WellFormedText, Optimal}
 
 -- Demand 3
 
 module _ (text : List ℕ) (n : Network) (t : WellFormedText text n) where
   well-formed : WellFormed n
-  unfolding Rattle.network.specs.Reading.at-the-end
+  unfolding Rattle.texts.specs.Reading.at-the-end
   well-formed = let w = walked (lines text) n (walk-whole (t .whole)) in fit-well-formed n (w .some-gate) (w .fit)
 
   -- a heavy gate is told, and only then
-  told-or-light : ((at : ℕ) × (reading text ≡ refused 9 at) × SomeHeavy n) ⊎ (reading text ≡ network n)
+  told-or-light : ((at : ℕ) × (reading text ≡ refused (at-line 9 at)) × SomeHeavy n) ⊎ (reading text ≡ network n)
   told-or-light = go (first-heavy (n .capacity) 2 (n .gates)) refl
     where
       go :
           (o : Option ℕ) → first-heavy (n .capacity) 2 (n .gates) ≡ o
-          → ((at : ℕ) × (reading text ≡ refused 9 at) × SomeHeavy n) ⊎ (reading text ≡ network n)
+          → ((at : ℕ) × (reading text ≡ refused (at-line 9 at)) × SomeHeavy n) ⊎ (reading text ≡ network n)
       go none e =
           inr (reading-exactly text .whole n .1 (record { fits = t .fits; whole = t .whole; light = heavy-none n .0 e }))
       go (some at) e =
           let w = heavy-told n at .0 e in
           inl
-          (w .0 + 2, reading-exactly text .number 9 (w .0 + 2) .1 (too-heavy (t .fits) (t .whole) (w .1)), (w .0, w .1 .heavy))
+          (w .0 + 2, reading-exactly text .refusal (at-line 9 (w .0 + 2)) .1 (too-heavy (t .fits) (t .whole) (w .1)), (w .0, w .1 .heavy))
 
 -- A heavy gate is what reading tells of a text without fault, and what forbids a legal clustering.
 pub optimal : (text : List ℕ) → Optimal text
@@ -70,7 +78,7 @@ optimal text =
           λ n t.
           let b = best n (well-formed text n t) in (
             (λ w.
-                ⊎-elim (λ h. b .heavy .0 (h .2)) (λ e. let q = w .1 in let z : _≡_ {A = ℕ} 0 1 = cc in absurd (omega arith))
+                ⊎-elim (λ h. b .heavy .0 (h .2)) (λ e. let q = w .1 in never cc)
                 (told-or-light text n t)),
             λ none-legal.
                 ⊎-elim (λ h. (h .0, h .1))
@@ -116,23 +124,19 @@ between (q ∷ rs) r t m =
     ⊎-elim (λ (e : r ≡ q). omega (arith, ap (λ (x : Row). x .number) e, leb-true 2 (q .number) (a .0), leb-true (q .number) 8 (b .0)))
     (λ (m′ : List·Memᴰ r rs). between rs r (b .1) m′)
     (List·Memᴰ·cases-cons m)
-  where
-    both-true : (x y : Bool) → x && y ≡ true → (x ≡ true) × (y ≡ true)
-    both-true true y h = (refl, h)
-    both-true false y h = let z : _≡_ {A = ℕ} 0 1 = cc in absurd (omega arith)
 
 pub given-between : {k : ℕ} {l : Line} → (p : _) → Given k p l → (2 ≤ k) × (k ≤ 8)
 unfolding all-between table
-given-between p g = omega (arith, between table (g .row) refl (g .listed), g .numbered)
+given-between p g = omega (arith, between table (g .row) refl (given-listed g), g .numbered)
 
 module _ (text : List ℕ) where
-  number-bound : {k at : ℕ} → Says text k at → (1 ≤ k) × (k ≤ 10)
+  number-bound : {f : Refusal} → Says text f → (1 ≤ f .number) × (f .number ≤ 10)
   number-bound (too-long h) = omega arith
   number-bound (faulty-line {p = p} back fits b here given) = omega (arith, given-between p given)
   number-bound (no-end fits b h) = omega arith
   number-bound (too-heavy fits b h) = omega arith
 
-  line-bound : {k at : ℕ} → Says text k at → at ≤ suc (length (lines text))
+  line-bound : {f : Refusal} → Says text f → f .line ≤ suc (length (lines text))
   line-bound (too-long h) = omega arith
   line-bound (faulty-line {front = front} {l = l} back fits b here given) =
       omega (arith, ap length here, length-append front (l ∷ back))
@@ -141,30 +145,9 @@ module _ (text : List ℕ) where
 
 -- the lines of an answer: how many, and how long
 
-keep-shorter : (test : ℕ → Bool) (xs : List ℕ) → length (keep test xs) ≤ length xs
-unfolding keep
-keep-shorter test [] = omega arith
-keep-shorter test (x ∷ xs) =
-    ⊎-elim (λ (t : test x ≡ true). rw t (omega (arith, keep-shorter test xs)))
-    (λ (t : test x ≡ false). rw t (omega (arith, keep-shorter test xs)))
-    (true-or-false (test x))
-
-length-upto : (k : ℕ) → length (upto k) ≡ k
-unfolding upto
-length-upto zero = refl
-length-upto (suc k) = omega (arith, length-append (upto k) (k ∷ []), length-upto k)
-
 pub drawn-few : (n : Network) (l : List ℕ) → length (drawn n l) ≤ size n
 unfolding drawn
 drawn-few n l = omega (arith, keep-shorter (λ r. ltb 0 (getD (marks n l) r 0)) (upto (size n)), length-upto (size n))
-
-pub members-few : (n : Network) (l : List ℕ) (r : ℕ) → length (members n l r) ≤ size n
-unfolding members
-members-few n l r = omega (arith, keep-shorter (λ x. member x (cluster n l r)) (upto (size n)), length-upto (size n))
-
-pub line-length : (bs : List ℕ) → length (spell-line bs) ≡ 2 * length bs + 1
-unfolding spell-line
-line-length bs = omega (arith, length-append (gather byte-digits bs) (line-feed ∷ []), length-digits bs)
 
 AllShort : List (List ℕ) → Type 0
 AllShort ls = (l : List ℕ) → List·Memᴰ l ls → length l ≤ most-line
@@ -197,11 +180,6 @@ module _ (n : Network) (l roots : List ℕ) where
   unfolding result-lines first-lines cluster-lines
   result-parts = refl
 
-  pub result-count : length (result-lines n l roots) ≡ 2 + size n + length roots
-  unfolding result-lines
-  result-count =
-      simp (length-append, length-map) (omega (arith, length-upto (size n)))
-
   result-short : size n ≤ most-gates → AllShort (result-lines n l roots)
   unfolding AllShort first-lines cluster-lines result-bytes label-bytes cluster-bytes result-end-bytes long-bytes word-bytes
   result-short few =
@@ -217,37 +195,37 @@ module _ (n : Network) (l roots : List ℕ) where
 
 told-few : (r : Reading) → ((n : Network) → r ≡ network n → size n ≤ most-gates) → length (lines-told r) ≤ 2 + 2 * most-gates
 unfolding lines-told network-result
-told-few (refused k at) few = omega arith
+told-few (refused f) few = omega arith
 told-few (network n) few =
     omega (arith, result-count n (labels n) (drawn n (labels n)), drawn-few n (labels n), few n refl)
 
 told-short : (r : Reading) → ((n : Network) → r ≡ network n → size n ≤ most-gates) → AllShort (lines-told r)
 unfolding lines-told network-result refusal-bytes word-bytes
-told-short (refused k at) few = one-short _ (omega (arith, line-length (refusal-bytes k at)))
+told-short (refused f) few = one-short _ (omega (arith, line-length (refusal-bytes f)))
 told-short (network n) few = result-short n (labels n) (drawn n (labels n)) (few n refl)
 
--- Every text is answered within the bounds, and a refusal keeps the rows.
-pub finished : (text : List ℕ) (rows : Rows) → Finished text rows
+-- Every text is answered within the bounds, and a refusal keeps the row.
+pub finished : (text row : List ℕ) → Finished text row
 unfolding answer-lines AllShort filled
-finished text rows =
+finished text row =
     let few : (n : Network) → reading text ≡ network n → size n ≤ most-gates = λ n e. accepted-within-ceilings text n e .gates in
     record {
-      told = either (answer text rows);
-      number = λ k at e. room-number (answer-exactly text rows .number k at .0 e);
-      line = λ k at e. room-line (answer-exactly text rows .number k at .0 e);
+      told = either (answer text row);
+      number = λ f e. room-number (answer-exactly text row .refusal f .0 e);
+      line = λ f e. room-line (answer-exactly text row .refusal f .0 e);
       few = told-few (reading text) few;
       short = told-short (reading text) few;
-      kept = λ k at e. rw e;
+      kept = λ f e. rw e;
     }
   where
-    either : (r : Reading) → ((n : Network) × (r ≡ network n)) ⊎ ((k : ℕ) × (at : ℕ) × (r ≡ refused k at))
-    either (refused k at) = inr (k, at, refl)
+    either : (r : Reading) → ((n : Network) × (r ≡ network n)) ⊎ ((f : Refusal) × (r ≡ refused f))
+    either (refused f) = inr (f, refl)
     either (network n) = inl (n, refl)
 
-    room-number : {k at : ℕ} → SaysRoom text rows k at → (1 ≤ k) × (k ≤ 10)
+    room-number : {f : Refusal} → SaysRoom text row f → (1 ≤ f .number) × (f .number ≤ 10)
     room-number (of-text s) = number-bound text s
     room-number (short-row r s) = omega arith
 
-    room-line : {k at : ℕ} → SaysRoom text rows k at → at ≤ suc (length (lines text))
+    room-line : {f : Refusal} → SaysRoom text row f → f .line ≤ suc (length (lines text))
     room-line (of-text s) = line-bound text s
     room-line (short-row r s) = omega arith

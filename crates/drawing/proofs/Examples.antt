@@ -3,12 +3,15 @@ use Prim.Native.Nat.{ℕ, suc}
 use mathlib.Core.Path.{_≡_, refl}
 use mathlib.Core.List.{List, [], _∷_, _++_, map}
 use lib.ListN.{length, drop, replicate}
-use Rattle.network.specs.Spelling.{spell-line, join}
-use Rattle.drawing.specs.declared.block.Block.the-variants as block
-use Rattle.drawing.specs.declared.Prepared.the-variants as prepared
-use Rattle.drawing.specs.Result.{refusal-bytes, answer-lines}
-use Rattle.drawing.specs.Prepared.{Lent}
-use Rattle.drawing.specs.Block.{fitting, run-answer, lines-answer, tell-lines-answer}
+use Rattle.frames.specs.Digits.{spell-line}
+use Rattle.frames.specs.Refusal.{at-line, no-room}
+use Rattle.texts.specs.Spelling.{join}
+use Rattle.rows.specs.declared.Read.the-variants as read
+use Rattle.results.specs.declared.block.Block.the-variants as block
+use Rattle.results.specs.Result.{refusal-bytes}
+use Rattle.results.specs.Block.{fitting, run-answer, lines-answer}
+use Rattle.drawing.specs.Answer.{answer-lines}
+use Rattle.drawing.specs.Prepared.{Lent, tell-lines-answer}
 
 -- frames, byte by byte, as lines
 unfoldable pub frames : List (List ℕ) → List (List ℕ)
@@ -133,7 +136,7 @@ table = refl
 -- the last two in 30 and not in 29, and none past the last.
 pub blocks :
     (lines-answer (answer-lines (text (A 3 4))) (replicate 40 0) ≡ block.Lines 2 30)
-    × (lines-answer (answer-lines (text (A 3 4))) (replicate 14 0) ≡ block.Refused 10 0)
+    × (lines-answer (answer-lines (text (A 3 4))) (replicate 14 0) ≡ block.Refused no-room)
     × (lines-answer (drop 8 (answer-lines (text (A 3 4)))) (replicate 30 0) ≡ block.Lines 2 30)
     × (lines-answer (drop 8 (answer-lines (text (A 3 4)))) (replicate 29 0) ≡ block.Lines 1 23)
     × (lines-answer (drop 10 (answer-lines (text (A 3 4)))) [] ≡ block.Lines 0 0)
@@ -143,8 +146,8 @@ blocks = (refl, refl, refl, refl, refl)
 -- a refusal has its one line, of 9 bytes, in the first block
 pub refusal-blocks :
     (l : Lent)
-    → (tell-lines-answer (prepared.Refused 3 1) 0 l (replicate 9 0) ≡ block.Lines 1 9)
-    × (tell-lines-answer (prepared.Refused 3 1) 0 l (replicate 8 0) ≡ block.Refused 10 0)
-    × (tell-lines-answer (prepared.Refused 3 1) 1 l (replicate 9 0) ≡ block.Lines 0 0)
+    → (tell-lines-answer (read.Refused (at-line 3 1)) 0 l (replicate 9 0) ≡ block.Lines 1 9)
+    × (tell-lines-answer (read.Refused (at-line 3 1)) 0 l (replicate 8 0) ≡ block.Refused no-room)
+    × (tell-lines-answer (read.Refused (at-line 3 1)) 1 l (replicate 9 0) ≡ block.Lines 0 0)
 unfolding tell-lines-answer lines-answer run-answer fitting join spell-line refusal-bytes
 refusal-blocks l = (refl, refl, refl)

@@ -11,49 +11,52 @@ use Rattle.model.specs.Network.{Network, size}
 use Rattle.model.specs.Label.{labels as labels-of}
 use Rattle.model.specs.Drawing.{marks as marks-of, drawn}
 use Rattle.model.proofs.Drawn.{drawn-known}
-use Rattle.network.specs.Reading.{Reading, refused, network, reading}
-use Rattle.network.specs.Rows.{too-short, fill}
-use Rattle.network.specs.Spelling.{spell-line, join, rows-answer}
-use Rattle.network.specs.Says.{Says, too-long, faulty-line, no-end, too-heavy}
-use Rattle.network.specs.Writing.{line-at, line-answer, line-row, LineWritten}
-use Rattle.network.specs.declared.writing.Written.{Written}
-use Rattle.network.specs.declared.writing.Written.the-variants.{Line}
-use Rattle.network.proofs.Tests.{never}
-use Rattle.network.proofs.Table.{reading-exactly}
-use Rattle.network.proofs.AcceptedNetwork.{accepted-well-formed, accepted-within-ceilings}
-use Rattle.labelling.specs.Members.{written}
-use Rattle.drawing.specs.declared.block.Block.{Block}
-use Rattle.drawing.specs.declared.block.Block.the-variants.{Lines}
-use Rattle.drawing.specs.declared.Prepared.{Prepared}
-use Rattle.drawing.specs.declared.Prepared.the-variants as prepared
-use Rattle.drawing.specs.Result.{answer-lines, lines-told, network-result, result-lines, refusal-bytes}
+use Rattle.texts.specs.Reading.{Reading, refused, network, reading}
+use Rattle.frames.specs.declared.Refusal.{Refusal}
+use Rattle.texts.specs.Spelling.{join}
+use Rattle.texts.specs.Says.{Says, too-long, faulty-line, no-end, too-heavy}
+use Rattle.frames.proofs.Tests.{never}
+use Rattle.texts.proofs.Table.{reading-exactly}
+use Rattle.texts.proofs.AcceptedNetwork.{accepted-well-formed, accepted-within-ceilings}
+use Rattle.rows.specs.declared.Read.{Read}
+use Rattle.rows.specs.declared.Read.the-variants as read
+use Rattle.rows.specs.Row.{too-short, header-of, fill, places}
+use Rattle.rows.specs.Spelling.{row-answer}
+use Rattle.rows.proofs.RoundTrip.{read-filled-answers}
+use Rattle.frames.specs.Put.{line-at, line-answer, line-row, LineWritten}
+use Rattle.frames.specs.declared.Written.{Written}
+use Rattle.frames.specs.declared.Written.the-variants.{Line}
+use Rattle.labelling.specs.Promises.{written}
+use Rattle.selection.proofs.Roots.{length-marks, drawn-roots}
+use Rattle.results.specs.declared.block.Block.{Block}
+use Rattle.results.specs.declared.block.Block.the-variants.{Lines}
+use Rattle.results.specs.Result.{result-lines}
+use Rattle.results.specs.Line.{told-line}
+use Rattle.results.specs.Block.{fitting, in-front, lines-answer, lines-row, LinesWritten, drawn-lines, refusal-lines}
+use Rattle.results.proofs.Answered.{told-written}
+use Rattle.results.proofs.Fitting.{drop-first}
+use Rattle.results.proofs.Blocks.{told-at, some-fit, one-fits, block-written}
+use Rattle.drawing.specs.Answer.{answer-lines, lines-told, network-result}
 use Rattle.drawing.specs.Demands.{most-line}
-use Rattle.drawing.specs.Drawn.{told-line}
-use Rattle.drawing.specs.Prepared.{Lent, any-short, prepared-answer, prepared-rows, prepared-lent, refusal-line, tell-answer, tell-row, Told}
-use Rattle.drawing.specs.Block.{fitting, in-front, lines-answer, lines-row, LinesWritten, drawn-lines, tell-lines-answer, tell-lines-row, ToldLines}
+use Rattle.drawing.specs.Prepared.{Lent, any-short, prepared-answer, prepared-rows, prepared-lent, tell-answer, tell-row, Told, tell-lines-answer, tell-lines-row, ToldLines}
 use Rattle.drawing.specs.Headline.{Ample, Answers, Headline}
 use Rattle.drawing.proofs.Demands.{given-between, finished, faithful}
-use Rattle.drawing.proofs.Selected.{length-marks, drawn-roots}
 use Rattle.drawing.proofs.SameLabels.{lines-same}
-use Rattle.drawing.proofs.Answered.{told-written}
-use Rattle.drawing.proofs.Preparing.{filled-answer, length-labelled, labels-same}
-use Rattle.drawing.proofs.Fitting.{drop-first}
-use Rattle.drawing.proofs.Blocks.{told-at, some-fit, one-fits, block-written}
+use Rattle.drawing.proofs.Preparing.{length-labelled, labels-same}
 
 -- ample rows have room for a network of any text
 
-ample-rows : (gates : ℕ) (l : Lent) → Ample l → gates ≤ most-gates → too-short gates (l .rows) ≡ false
+ample-row : (gates : ℕ) (l : Lent) → Ample l → gates ≤ most-gates → too-short gates (l .row) ≡ false
 unfolding too-short
-ample-rows gates l a h =
-    rw (le-ltb (length (l .rows .weights)) gates (omega (arith, a .weights)), le-ltb (length (l .rows .delays)) gates (omega (arith, a .delays)), le-ltb (length (l .rows .counts)) gates (omega (arith, a .counts)), le-ltb (length (l .rows .fanins)) (8 * gates) (omega (arith, a .fanins)))
+ample-row gates l a h = le-ltb (length (l .row)) (places * gates) (omega (arith, a .row))
 
 none-short : (gates : ℕ) (l : Lent) → Ample l → gates ≤ most-gates → any-short gates l ≡ false
 unfolding any-short
 none-short gates l a h =
-    rw (ample-rows gates l a h, le-ltb (length (l .labels)) gates (omega (arith, a .labels)), le-ltb (length (l .marks)) gates (omega (arith, a .marks)))
+    rw (ample-row gates l a h, le-ltb (length (l .labels)) gates (omega (arith, a .labels)), le-ltb (length (l .marks)) gates (omega (arith, a .marks)))
 
 -- reading never refuses by 10
-below-10 : {text : List ℕ} {k at : ℕ} → Says text k at → k < 10
+below-10 : {text : List ℕ} {f : Refusal} → Says text f → f .number < 10
 below-10 (too-long h) = omega arith
 below-10 (faulty-line {p = p} back fits b here given) = omega (arith, given-between p given)
 below-10 (no-end fits b h) = omega arith
@@ -85,26 +88,28 @@ written-run ls index {out} w h =
     )
 
 -- the lines of a text that is refused
-refused-lines : (text : List ℕ) (k at : ℕ) → reading text ≡ refused k at → answer-lines text ≡ spell-line (refusal-bytes k at) ∷ []
+refused-lines : (text : List ℕ) (f : Refusal) → reading text ≡ refused f → answer-lines text ≡ refusal-lines f
 unfolding answer-lines lines-told
-refused-lines text k at e = ap lines-told e
+refused-lines text f e = ap lines-told e
 
-refusal-told : (text : List ℕ) {k at : ℕ} {p : Prepared} {index : ℕ} {l : Lent} {out : List ℕ} {r : Written} {row : List ℕ} → reading text ≡ refused k at
-    → p ≡ prepared.Refused k at
+refusal-told : (text : List ℕ) {f : Refusal} {p : Read} {index : ℕ} {l : Lent} {out : List ℕ} {r : Written} {row : List ℕ}
+    → reading text ≡ refused f
+    → p ≡ read.Refused f
     → Told p index l out r row
     → LineWritten (line-at index (answer-lines text)) out r row
-unfolding tell-answer tell-row refusal-line
-refusal-told text {k} {at} e q t =
-    let lines = refused-lines text k at e in
+unfolding tell-answer tell-row
+refusal-told text {f} e q t =
+    let lines = refused-lines text f e in
     rw lines (record { answer = rw q at (t .answer); kept = rw q at (t .kept) })
 
-refusal-block : (text : List ℕ) {k at : ℕ} {p : Prepared} {index : ℕ} {l : Lent} {out : List ℕ} {r : Block} {row : List ℕ} → reading text ≡ refused k at
-    → p ≡ prepared.Refused k at
+refusal-block : (text : List ℕ) {f : Refusal} {p : Read} {index : ℕ} {l : Lent} {out : List ℕ} {r : Block} {row : List ℕ}
+    → reading text ≡ refused f
+    → p ≡ read.Refused f
     → ToldLines p index l out r row
     → LinesWritten (drop index (answer-lines text)) out r row
 unfolding tell-lines-answer tell-lines-row
-refusal-block text {k} {at} e q t =
-    let lines = refused-lines text k at e in
+refusal-block text {f} e q t =
+    let lines = refused-lines text f e in
     rw lines (record { answer = rw q at (t .answer); kept = rw q at (t .kept) })
 
 -- The result of a network, told from the rows that were prepared for it.
@@ -132,8 +137,8 @@ module _ (text : List ℕ) (n : Network) (before : Lent) (e : reading text ≡ n
   told-lines : (index : ℕ) → told-line index n labels marks ≡ line-at index (answer-lines text)
   told-lines index = told-at n labels marks index ∙ ap (line-at index) prepared-lines
 
-  rows-answered : rows-answer (n .capacity) (n .hop) (size n) (fill 0 (n .gates) (before .rows)) ≡ network n
-  rows-answered = filled-answer text n (before .rows) e (ample-rows (size n) before a few)
+  row-answered : row-answer (header-of n) (fill (n .gates) (before .row)) ≡ network n
+  row-answered = read-filled-answers text n (before .row) e (ample-row (size n) before a few)
 
   labels-room : size n ≤ length labels
   labels-room = omega (arith, length-labelled n (before .labels) (omega (arith, a .labels, few)), a .labels, few)
@@ -141,7 +146,7 @@ module _ (text : List ℕ) (n : Network) (before : Lent) (e : reading text ≡ n
   marks-room : size n ≤ length marks
   marks-room = omega (arith, length-append (marks-of n (labels-of n)) (drop (size n) (before .marks)), length-marks n (labels-of n))
 
-  result-told : {index : ℕ} {p : Prepared} {l : Lent} {out : List ℕ} {r : Written} {row : List ℕ} → p ≡ prepared.Result (size n) (n .capacity) (n .hop)
+  result-told : {index : ℕ} {p : Read} {l : Lent} {out : List ℕ} {r : Written} {row : List ℕ} → p ≡ read.Network (header-of n)
       → l ≡ prepared-rows n before
       → Told p index l out r row
       → LineWritten (line-at index (answer-lines text)) out r row
@@ -149,9 +154,9 @@ module _ (text : List ℕ) (n : Network) (before : Lent) (e : reading text ≡ n
   result-told {index} q k t =
       rw (← told-lines index)
       (told-written n (size n) labels marks refl labels-room marks-room
-      (record { answer = rw (q, k, rows-answered) at (t .answer); kept = rw (q, k, rows-answered) at (t .kept) }))
+      (record { answer = rw (q, k, row-answered) at (t .answer); kept = rw (q, k, row-answered) at (t .kept) }))
 
-  result-block : {index : ℕ} {p : Prepared} {l : Lent} {out : List ℕ} {r : Block} {row : List ℕ} → p ≡ prepared.Result (size n) (n .capacity) (n .hop)
+  result-block : {index : ℕ} {p : Read} {l : Lent} {out : List ℕ} {r : Block} {row : List ℕ} → p ≡ read.Network (header-of n)
       → l ≡ prepared-rows n before
       → ToldLines p index l out r row
       → LinesWritten (drop index (answer-lines text)) out r row
@@ -159,7 +164,7 @@ module _ (text : List ℕ) (n : Network) (before : Lent) (e : reading text ≡ n
   result-block q k t =
       rw (← prepared-lines)
       (block-written n labels marks labels-room marks-room
-      (record { answer = rw (q, k, rows-answered) at (t .answer); kept = rw (q, k, rows-answered) at (t .kept) }))
+      (record { answer = rw (q, k, row-answered) at (t .answer); kept = rw (q, k, row-answered) at (t .kept) }))
 
 -- A text is refused, and its one line is told; or it is a network's, for which ample rows have room, and its result is told.
 pub headline : Headline
@@ -169,10 +174,10 @@ headline text before after p a into = go (reading text) refl
         → LineWritten (line-at index (answer-lines text)) out r row)
         → ((index : ℕ) (out : List ℕ) (r : Block) (row : List ℕ) → ToldLines p index after out r row
         → LinesWritten (drop index (answer-lines text)) out r row)
-        → ((at : ℕ) → p ≡ prepared.Refused 10 at → ⊥)
+        → ((f : Refusal) → p ≡ read.Refused f → f .number ≡ 10 → ⊥)
         → Answers text p after
     all line lines never-10 =
-        let short = line-short (answer-lines text) most-line (finished text (before .rows) .short) in
+        let short = line-short (answer-lines text) most-line (finished text (before .row) .short) in
         record {
           line = line;
           room = λ index out r row t h. written-whole (line index out r row t) (omega (arith, short index));
@@ -182,16 +187,16 @@ headline text before after p a into = go (reading text) refl
         }
 
     go : (w : Reading) → reading text ≡ w → Answers text p after
-    go (refused k at) q =
-        let told : p ≡ prepared.Refused k at = into .answer ∙ unfold prepared-answer in rw q in
+    go (refused f) q =
+        let told : p ≡ read.Refused f = into .answer ∙ unfold prepared-answer in rw q in
         all (λ index out r row t. refusal-told text q told t) (λ index out r row t. refusal-block text q told t)
-        (λ line ten.
-        let few = below-10 (reading-exactly text .number k at .0 q) in
-        let same : k ≡ 10 = cc in
-        omega arith)
+        (λ g is ten.
+        let few = below-10 (reading-exactly text .refusal f .0 q) in
+        let same : f ≡ g = cc in
+        omega (arith, ap (λ (k : Refusal). k .number) same))
     go (network n) q =
         let none = none-short (size n) before a (few text n before q a) in
-        let told : p ≡ prepared.Result (size n) (n .capacity) (n .hop) = into .answer ∙ unfold prepared-answer in rw (q, none) in
+        let told : p ≡ read.Network (header-of n) = into .answer ∙ unfold prepared-answer in rw (q, none) in
         let left : after ≡ prepared-rows n before = into .lent ∙ unfold prepared-lent in rw (q, none) in
         all (λ index out r row t. result-told text n before q a told left t) (λ index out r row t. result-block text n before q a told left t)
-        (λ line ten. never cc)
+        (λ f is ten. never cc)

@@ -1,14 +1,6 @@
 pub mod Demands
 pub mod Examples
-pub mod Marks
-pub mod Unread
-pub mod ResultLines
-pub mod Selected
-pub mod LineAt
 pub mod SameLabels
-pub mod Answered
 pub mod Preparing
-pub mod Fitting
-pub mod Blocks
 pub mod Headline
 pub mod Unique

@@ -14,8 +14,9 @@ use Rattle.model.specs.Drawing.{inputs, mark, select, marks, members}
 use Rattle.model.proofs.Lists.{upto-in}
 use Rattle.model.proofs.Label.{cluster-agree}
 use Rattle.model.proofs.Outputs.{outputs-in}
-use Rattle.network.specs.Spelling.{spell-line}
-use Rattle.drawing.specs.Result.{result-lines, delay-from, result-bytes, label-bytes, cluster-bytes}
+use Rattle.frames.specs.Digits.{spell-line}
+use Rattle.selection.specs.Selection.{delay-from}
+use Rattle.results.specs.Result.{result-lines, result-bytes, label-bytes, cluster-bytes}
 
 map-same : {A : Type 0} (f g : ℕ → A) (xs : List ℕ) → ((x : ℕ) → x ∈ xs → f x ≡ g x) → map f xs ≡ map g xs
 map-same f g [] h = refl

@@ -15,29 +15,32 @@ use Rattle.model.specs.Drawing.{Drawn, drawn, members, OutputDelay}
 use Rattle.model.specs.Best.{Best, LeastDelay}
 use Rattle.frames.specs.Text.{lines}
 use Rattle.frames.specs.declared.Place.the-variants.{Closed}
-use Rattle.network.specs.Reading.{refused, network, reading, most-text}
-use Rattle.network.specs.Says.{Before}
-use Rattle.network.specs.Rows.{Rows, answer, filled}
-use Rattle.network.specs.Spelling.{spell-network}
-use Rattle.drawing.specs.Result.{answer-lines, network-result, delay-from}
+use Rattle.frames.specs.declared.Refusal.{Refusal}
+use Rattle.frames.specs.Refusal.{at-line}
+use Rattle.texts.specs.Reading.{refused, network, reading, most-text}
+use Rattle.texts.specs.Says.{Before}
+use Rattle.rows.specs.Read.{answer, filled}
+use Rattle.texts.specs.Spelling.{spell-network}
+use Rattle.selection.specs.Selection.{delay-from}
+use Rattle.drawing.specs.Answer.{answer-lines, network-result}
 
 -- "the longest result line is 2,059 bytes"
 abbrev pub most-line : ℕ
 most-line = 2_059
 
--- Demand 1, of a text and the rows lent for it.
-pub record Finished (text : List ℕ) (rows : Rows) : Type 0 where
+-- Demand 1, of a text and the row lent for it.
+pub record Finished (text row : List ℕ) : Type 0 where
   -- "Every text gets a result or one numbered refusal with its line"
   pub told :
-      ((n : Network) × (answer text rows ≡ network n))
-      ⊎ ((k : ℕ) × (at : ℕ) × (answer text rows ≡ refused k at))
+      ((n : Network) × (answer text row ≡ network n))
+      ⊎ ((f : Refusal) × (answer text row ≡ refused f))
   -- "within stated bounds": the number, the line, how many lines are written and how long each is
-  pub number : (k at : ℕ) → answer text rows ≡ refused k at → (1 ≤ k) × (k ≤ 10)
-  pub line : (k at : ℕ) → answer text rows ≡ refused k at → at ≤ suc (length (lines text))
+  pub number : (f : Refusal) → answer text row ≡ refused f → (1 ≤ f .number) × (f .number ≤ 10)
+  pub line : (f : Refusal) → answer text row ≡ refused f → f .line ≤ suc (length (lines text))
   pub few : length (answer-lines text) ≤ 2 + 2 * most-gates
   pub short : (l : List ℕ) → List·Memᴰ l (answer-lines text) → length l ≤ most-line
   -- "A refusal hands back number and line only; every lent row still holds what it held."
-  pub kept : (k at : ℕ) → answer text rows ≡ refused k at → filled (answer text rows) rows ≡ rows
+  pub kept : (f : Refusal) → answer text row ≡ refused f → filled (answer text row) row ≡ row
 
 -- Demand 2, of an accepted text and its network.
 pub record Faithful (text : List ℕ) (n : Network) : Type 1 where
@@ -65,4 +68,4 @@ pub record Optimal (text : List ℕ) : Type 0 where
   -- "A well-formed text is refused for a heavy gate exactly when no legal clustering exists."
   pub heavy :
       (n : Network) → WellFormedText text n
-      → ((at : ℕ) × (reading text ≡ refused 9 at)) ↔ ((k : Clustering) → Legal n k → ⊥)
+      → ((at : ℕ) × (reading text ≡ refused (at-line 9 at))) ↔ ((k : Clustering) → Legal n k → ⊥)

@@ -4,31 +4,30 @@ use Prim.Native.Nat.{ℕ, _*_, _≤_, _<_}
 use mathlib.Core.Path.{_≡_}
 use mathlib.Core.List.{List, _++_}
 use lib.ListN.{length, drop}
-use Rattle.model.specs.Ceilings.{most-gates, most-fanins}
-use Rattle.network.specs.Spelling.{join}
-use Rattle.network.specs.Writing.{line-at, LineWritten}
-use Rattle.network.specs.declared.writing.Written.{Written}
-use Rattle.network.specs.declared.writing.Written.the-variants.{Line}
-use Rattle.drawing.specs.declared.block.Block.{Block}
-use Rattle.drawing.specs.declared.block.Block.the-variants.{Lines}
-use Rattle.drawing.specs.declared.Prepared.{Prepared}
-use Rattle.drawing.specs.declared.Prepared.the-variants.{Refused}
-use Rattle.drawing.specs.Result.{answer-lines}
+use Rattle.model.specs.Ceilings.{most-gates}
+use Rattle.texts.specs.Spelling.{join}
+use Rattle.frames.specs.declared.Refusal.{Refusal}
+use Rattle.frames.specs.Put.{line-at, LineWritten}
+use Rattle.frames.specs.declared.Written.{Written}
+use Rattle.frames.specs.declared.Written.the-variants.{Line}
+use Rattle.results.specs.declared.block.Block.{Block}
+use Rattle.results.specs.declared.block.Block.the-variants.{Lines}
+use Rattle.results.specs.Block.{fitting, in-front, LinesWritten}
+use Rattle.rows.specs.declared.Read.{Read}
+use Rattle.rows.specs.declared.Read.the-variants.{Refused}
+use Rattle.rows.specs.Row.{places}
+use Rattle.drawing.specs.Answer.{answer-lines}
 use Rattle.drawing.specs.Demands.{most-line}
-use Rattle.drawing.specs.Prepared.{Lent, PreparedInto, Told}
-use Rattle.drawing.specs.Block.{fitting, in-front, LinesWritten, ToldLines}
+use Rattle.drawing.specs.Prepared.{Lent, PreparedInto, Told, ToldLines}
 
--- Rows with room for the largest network: 512 places, and 4,096 for the fan-ins.
+-- Rows with room for the largest network: 5,632 places for the gates, and 512 each for labels and marks.
 pub record Ample (l : Lent) : Type 0 where
-  pub weights : most-gates ≤ length (l .rows .weights)
-  pub delays : most-gates ≤ length (l .rows .delays)
-  pub counts : most-gates ≤ length (l .rows .counts)
-  pub fanins : most-fanins * most-gates ≤ length (l .rows .fanins)
+  pub row : places * most-gates ≤ length (l .row)
   pub labels : most-gates ≤ length (l .labels)
   pub marks : most-gates ≤ length (l .marks)
 
 -- What is told of a text that was prepared so, with these rows.
-pub record Answers (text : List ℕ) (p : Prepared) (l : Lent) : Type 0 where
+pub record Answers (text : List ℕ) (p : Read) (l : Lent) : Type 0 where
   -- the line of an index is the text's own, and past the last line there is nothing
   pub line :
       (index : ℕ) (out : List ℕ) (r : Written) (row : List ℕ) → Told p index l out r row
@@ -48,7 +47,7 @@ pub record Answers (text : List ℕ) (p : Prepared) (l : Lent) : Type 0 where
       → let run = fitting (length out) (drop index (answer-lines text)) in
       (r ≡ Lines (length run) (length (join run))) × (row ≡ in-front (join run) out) × (index < length (answer-lines text) → 0 < length run)
   -- "which suffice for every text, so that it never answers 10"
-  pub never-10 : (at : ℕ) → p ≡ Refused 10 at → ⊥
+  pub never-10 : (f : Refusal) → p ≡ Refused f → f .number ≡ 10 → ⊥
 
 abbrev pub Headline : Type 0
-Headline = (text : List ℕ) (before after : Lent) (p : Prepared) → Ample before → PreparedInto text before p after → Answers text p after
+Headline = (text : List ℕ) (before after : Lent) (p : Read) → Ample before → PreparedInto text before p after → Answers text p after

@@ -1,8 +1,6 @@
--- Document 01, "Frames": what a text answers, line by line.
-pub mod Result
+-- Whole texts: what each answers, line by line, and the three demands.
+pub mod Answer
 pub mod Demands
-pub mod Selection
-pub mod Drawn
 pub mod Prepared
-pub mod Block
 pub mod Headline
+pub mod steps

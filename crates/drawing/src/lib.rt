@@ -1,170 +1,88 @@
-// Selection, and the result a line at a time. A network stands in rows, as the network crate has them, with its labels in
-// a row of their own. Selecting marks the roots of the drawn clusters in a row with a place for each gate; from rows,
-// labels and marks each line of the result is written when it is asked for. Over a whole text, `prepare` reads, labels and
-// selects, `tell` writes a line of its result, or the one line of its refusal, and `tell_lines` as many as have room.
-use crate::block::Block;
-use network::Read;
-use network::TOO_SHORT;
-use network::reading;
-use network::writing::Written;
-ghost use Rattle.drawing.specs.Prepared.{lent-of, PreparedInto, Told};
-ghost use Rattle.drawing.specs.Block.{ToldLines};
+// Whole texts. A network stands in its row, its labels and the marks of its drawn clusters in rows of their own: `prepare`
+// reads, labels and selects, `tell` writes a line of the result, or the one line of the refusal, and `tell_lines` as many as
+// have room.
+use frames::Refusal;
+use frames::Written;
+use results::block::Block;
+use rows::Header;
+use rows::Read;
+ghost use mathlib.Core.Path.{_≡_};
+ghost use Rattle.texts.specs.Reading.{reading};
+ghost use Rattle.drawing.specs.Prepared.{lent-of, any-short, prepared-lent, PreparedInto, Told, ToldLines};
+ghost use Rattle.drawing.specs.steps.Preparing.{Readable};
 
-pub mod block;
-pub mod result;
-pub mod selection;
-mod text;
-
-// What selecting answers: how many clusters are drawn and the output delay in ticks, the marks standing in the row; or a
-// refusal's number and line.
-pub enum Drawing {
-    Drawn { clusters: usize, delay: u32 },
-    Refused { number: u8, line: usize },
+// Whether a row is shorter than so many gates need.
+fn too_short(gates: usize, row: &[u16], labels: &[u32], marks: &[u8]) -> bool
+    ensures { λ r. ⌜ r ≡ any-short gates (lent-of (now (row .entry)) (now (labels .entry)) (now (marks .entry))) ⌝ }
+{
+    rows::too_short(gates, row) || labels.len() < gates || marks.len() < gates
 }
 
-// What a text comes to: a network's number of gates, M in cells and D in ticks, the network, its labels and the marks of its
-// roots standing in the rows; or a refusal's number and line.
-pub enum Prepared {
-    Result {
-        gates: usize,
-        capacity: u32,
-        hop: u16,
-    },
-    Refused {
-        number: u8,
-        line: usize,
-    },
+// The network of a text, its labels and the marks of its drawn clusters put into the rows.
+fn fill(text: &[u8], header: Header, row: &mut [u16], labels: &mut [u32], marks: &mut [u8])
+    requires { ⌜ Readable (now text) header (lent-of (now row) (now labels) (now marks)) ⌝ }
+    ensures { λ _. ⌜ lent-of (now (row .exit)) (now (labels .exit)) (now (marks .exit))
+        ≡ prepared-lent (reading (now (text .entry))) (lent-of (now (row .entry)) (now (labels .entry)) (now (marks .entry))) ⌝ }
+{
+    reading::read(text, row);
+    labelling::label(header, row, labels);
+    selection::draw(header, row, labels, marks);
 }
 
-// Reads a text into the rows, labels its network and selects its clusters. A refusal leaves every row as it was.
-pub fn prepare(
-    text: &[u8],
-    weights: &mut [u16],
-    delays: &mut [u16],
-    counts: &mut [u8],
-    fanins: &mut [u16],
-    labels: &mut [u32],
-    marks: &mut [u8],
-) -> Prepared
+// Reads a text into its row, labels its network and selects its clusters: the header of the network, which stands in the row
+// with its labels and the marks of its roots beside it, or a refusal, which leaves every row as it was.
+pub fn prepare(text: &[u8], row: &mut [u16], labels: &mut [u32], marks: &mut [u8]) -> Read
     ensures { λ r. ⌜ PreparedInto (now (text .entry))
-        (lent-of (now (weights .entry)) (now (delays .entry)) (now (counts .entry)) (now (fanins .entry)) (now (labels .entry)) (now (marks .entry)))
+        (lent-of (now (row .entry)) (now (labels .entry)) (now (marks .entry)))
         r
-        (lent-of (now (weights .exit)) (now (delays .exit)) (now (counts .exit)) (now (fanins .exit)) (now (labels .exit)) (now (marks .exit))) ⌝ }
+        (lent-of (now (row .exit)) (now (labels .exit)) (now (marks .exit))) ⌝ }
 {
     let seen = reading::look(text);
-    let Read::Network {
-        gates,
-        capacity,
-        hop,
-    } = seen
-    else {
-        return text::refusal(seen);
+    let Read::Network(header) = seen else {
+        return seen;
     };
-    if text::too_short(gates, weights, delays, counts, fanins, labels, marks) {
-        return Prepared::Refused {
-            number: TOO_SHORT,
-            line: 0,
-        };
+    if too_short(header.gates, row, labels, marks) {
+        return Read::Refused(Refusal::no_room());
     }
-    text::fill(
-        text,
-        capacity,
-        hop,
-        gates,
-        weights,
-        delays,
-        counts,
-        fanins,
-        labels,
-        marks,
-    );
-    Prepared::Result {
-        gates,
-        capacity,
-        hop,
-    }
+    fill(text, header, row, labels, marks);
+    seen
 }
 
 // The line of that index, counted from 0, of what a text came to: of its result, or the one line of its refusal; past the
 // last line nothing. A row too short for the line answers 10 and is left as it was.
 pub fn tell(
-    prepared: Prepared,
+    prepared: Read,
     index: usize,
-    weights: &[u16],
-    delays: &[u16],
-    counts: &[u8],
-    fanins: &[u16],
+    row: &[u16],
     labels: &[u32],
     marks: &[u8],
     out: &mut [u8],
 ) -> Written
-    ensures { λ r. ⌜ Told prepared index
-        (lent-of (now (weights .entry)) (now (delays .entry)) (now (counts .entry)) (now (fanins .entry)) (now (labels .entry)) (now (marks .entry)))
-        (now (out .entry)) r (now (out .exit)) ⌝ }
+    ensures { λ r. ⌜ Told prepared index (lent-of (now (row .entry)) (now (labels .entry)) (now (marks .entry))) (now (out .entry)) r (now (out .exit)) ⌝ }
 {
-    match prepared {
-        Prepared::Refused { number, line } => {
-            if index == 0 {
-                result::refusal_line(number, line, out)
-            } else {
-                Written::Line(0)
-            }
+    let Read::Network(header) = prepared else {
+        if index > 0 {
+            return Written::Line(0);
         }
-        Prepared::Result {
-            gates,
-            capacity,
-            hop,
-        } => result::line(
-            index,
-            capacity,
-            hop,
-            gates,
-            weights,
-            delays,
-            counts,
-            fanins,
-            labels,
-            marks,
-            out,
-        ),
-    }
+        return results::line::refusal_line(prepared.refusal(), out);
+    };
+    results::line::line(index, header, row, labels, marks, out)
 }
 
 // As many whole lines of what a text came to as the row has room for, from the line of that index on; past the last line
 // none. A row too short for the first of them answers 10 and is left as it was.
 pub fn tell_lines(
-    prepared: Prepared,
+    prepared: Read,
     index: usize,
-    weights: &[u16],
-    delays: &[u16],
-    counts: &[u8],
-    fanins: &[u16],
+    row: &[u16],
     labels: &[u32],
     marks: &[u8],
     out: &mut [u8],
 ) -> Block
-    ensures { λ r. ⌜ ToldLines prepared index
-        (lent-of (now (weights .entry)) (now (delays .entry)) (now (counts .entry)) (now (fanins .entry)) (now (labels .entry)) (now (marks .entry)))
-        (now (out .entry)) r (now (out .exit)) ⌝ }
+    ensures { λ r. ⌜ ToldLines prepared index (lent-of (now (row .entry)) (now (labels .entry)) (now (marks .entry))) (now (out .entry)) r (now (out .exit)) ⌝ }
 {
-    match prepared {
-        Prepared::Refused { number, line } => block::refusal_lines(index, number, line, out),
-        Prepared::Result {
-            gates,
-            capacity,
-            hop,
-        } => block::lines(
-            index,
-            capacity,
-            hop,
-            gates,
-            weights,
-            delays,
-            counts,
-            fanins,
-            labels,
-            marks,
-            out,
-        ),
-    }
+    let Read::Network(header) = prepared else {
+        return results::block::refusal_lines(index, prepared.refusal(), out);
+    };
+    results::block::lines(index, header, row, labels, marks, out)
 }

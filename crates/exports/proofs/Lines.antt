@@ -2,17 +2,15 @@
 use Prim.Native.Nat.{ℕ}
 use mathlib.Core.Path.{_≡_, sym, _∙_, ap}
 use mathlib.Core.List.{List}
-use Rattle.network.specs.declared.writing.Written.{Written}
-use Rattle.drawing.specs.declared.Prepared.{Prepared}
+use Rattle.frames.specs.declared.Written.{Written}
+use Rattle.rows.specs.declared.Read.{Read}
 use Rattle.drawing.specs.Prepared.{Lent, PreparedInto, Told}
 use Rattle.drawing.specs.Headline.{Ample}
 use Rattle.drawing.proofs.Headline.{headline}
 use Rattle.exports.specs.Exported.{length-of, LineOut}
 
-pub line-out :
-    (text : List ℕ) (before after : Lent) (p : Prepared) (index : ℕ) (out : List ℕ) (w : Written) (row : List ℕ) (r : ℕ)
-    → Ample before → PreparedInto text before p after → Told p index after out w row → length-of w ≡ r
-    → LineOut text index out r row
-line-out text before after p index out w row r room prepared told e =
+pub line-out : {text : List ℕ} {before after : Lent} {p : Read} {index : ℕ} {out : List ℕ} {w : Written} {row : List ℕ} {r : ℕ}
+    → Ample before → PreparedInto text before p after → Told p index after out w row → length-of w ≡ r → LineOut text index out r row
+line-out {text} {before} {after} {p} {index} {out} {w} {row} room prepared told e =
     let l = headline text before after p room prepared .line index out w row told in
     record { answer = sym e ∙ ap length-of (l .answer); kept = l .kept }

@@ -1,41 +1,33 @@
 // The library for programs in other languages: numbers pass as themselves, a slice as a pointer and then its length.
 // A refusal comes back as its number alone; 0 is no refusal.
-ghost use Rattle.exports.specs.Exported.{LabelledOut, LineOut};
-ghost use Rattle.network.specs.Rows.{rows-of};
+ghost use Rattle.exports.specs.Exported.{header-from, LabelledOut, LineOut};
+use frames::Written;
 use labelling::Labelled;
-use network::writing::Written;
-use units::FanInCount;
+use rows::Header;
+use units::Cells;
 use units::GateNumber;
+use units::Ticks;
 
-// The labels of a network in rows, one a gate, in front of the lent row.
+// The labels of the network that stands in the row, eleven places a gate, one label a gate, in front of the lent row.
 #[no_mangle]
 pub extern "C" fn lykophene_label(
     capacity: u32,
     hop: u16,
     gates: usize,
-    weights: &[u16],
-    delays: &[u16],
-    counts: &[u8],
-    fanins: &[u16],
+    row: &[u16],
     labels: &mut [u32],
 ) -> u8
-    ensures { λ r. ⌜ LabelledOut capacity hop gates
-        (rows-of (now (weights .entry)) (now (delays .entry)) (now (counts .entry)) (now (fanins .entry)))
-        (now (labels .entry)) r (now (labels .exit)) ⌝ }
+    ensures { λ r. ⌜ LabelledOut (header-from capacity hop gates) (now (row .entry)) (now (labels .entry)) r (now (labels .exit)) ⌝ }
 {
-    let answer = labelling::label(
-        capacity,
-        hop,
+    let header = Header {
+        capacity: Cells(capacity as u64),
+        hop: Ticks(hop as u64),
         gates,
-        weights,
-        delays,
-        counts,
-        fanins,
-        labels,
-    );
+    };
+    let answer = labelling::label(header, row, labels);
     match answer {
         Labelled::Done => 0,
-        Labelled::Refused { number, line: _ } => number,
+        Labelled::Refused(refusal) => refusal.number,
     }
 }
 
@@ -45,34 +37,13 @@ pub extern "C" fn lykophene_label(
 pub extern "C" fn lykophene_line(text: &[u8], index: usize, out: &mut [u8]) -> usize
     ensures { λ r. ⌜ LineOut (now (text .entry)) index (now (out .entry)) r (now (out .exit)) ⌝ }
 {
-    let mut weights = [0u16; GateNumber::MOST_GATES];
-    let mut delays = [0u16; GateNumber::MOST_GATES];
-    let mut counts = [0u8; GateNumber::MOST_GATES];
-    let mut fanins = [0u16; GateNumber::MOST_GATES * FanInCount::MOST];
+    let mut row = [0u16; rows::PLACES * GateNumber::MOST_GATES];
     let mut labels = [0u32; GateNumber::MOST_GATES];
     let mut marks = [0u8; GateNumber::MOST_GATES];
-    let prepared = drawing::prepare(
-        text,
-        &mut weights,
-        &mut delays,
-        &mut counts,
-        &mut fanins,
-        &mut labels,
-        &mut marks,
-    );
-    let written = drawing::tell(
-        prepared,
-        index,
-        &weights,
-        &delays,
-        &counts,
-        &fanins,
-        &labels,
-        &marks,
-        out,
-    );
+    let prepared = drawing::prepare(text, &mut row, &mut labels, &mut marks);
+    let written = drawing::tell(prepared, index, &row, &labels, &marks, out);
     match written {
         Written::Line(length) => length,
-        Written::Refused { number: _, line: _ } => 0,
+        Written::Refused(_) => 0,
     }
 }

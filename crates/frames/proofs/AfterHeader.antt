@@ -7,9 +7,11 @@ use lib.Dec.{eqb}
 use borrow.Author.Tests.{ne-eqb}
 use Rattle.frames.specs.declared.Place.the-variants.{Opening, AfterGates}
 use Rattle.frames.specs.declared.LineRead.the-variants.{Refused}
+use Rattle.frames.specs.Refusal.{at-line}
 use Rattle.frames.specs.Text.{Line}
 use Rattle.frames.specs.Table.{malformed, misplaced, kind}
-use Rattle.frames.specs.Frames.{judged, line-from, byte-from}
+use Rattle.frames.specs.Frames.{judged, byte-from}
+use Rattle.frames.specs.steps.Cut.{line-from}
 use Rattle.frames.proofs.Formed.{Formed, formed, any-place}
 use Rattle.frames.proofs.Rows.{judged-3}
 use Rattle.frames.proofs.OfLine.{kind-is}
@@ -26,7 +28,7 @@ module _ (text : List ℕ) (at end gates line : ℕ) (formed-line : malformed Op
   form = formed Opening text at end formed-line
 
   pub gates-3 : (byte-from text at ≡ 0x02 → ⊥) → (byte-from text at ≡ 0x0F → ⊥)
-      → Refused 3 line ≡ judged at (AfterGates gates) line (line-from text at end)
+      → Refused (at-line 3 line) ≡ judged at (AfterGates gates) line (line-from text at end)
   gates-3 not-gate not-end =
       let l = line-from text at end in
       sym

@@ -7,7 +7,8 @@ use lib.ListN.{length, getD, drop, take}
 use lib.Seq.{slice, length-slice, getD-drop, getD-take}
 use lib.Dec.{eqb}
 use Rattle.frames.specs.Text.{digit, even, bytes, word-at, long-at, words}
-use Rattle.frames.specs.Frames.{byte-from, word-from, long-from}
+use Rattle.frames.specs.Frames.{byte-from, word-from}
+use Rattle.frames.specs.steps.Cut.{long-from}
 
 pub length-bytes : (ds : List ℕ) → length (bytes ds) ≡ length ds / 2
 unfolding bytes

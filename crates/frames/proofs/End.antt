@@ -10,9 +10,11 @@ use lib.Dec.{eqb}
 use borrow.Author.Tests.{eq-eqb, ne-eqb}
 use Rattle.frames.specs.declared.Place.the-variants.{Opening, AfterGates}
 use Rattle.frames.specs.declared.LineRead.the-variants.{End, Refused}
+use Rattle.frames.specs.Refusal.{at-line}
 use Rattle.frames.specs.Text.{Line}
 use Rattle.frames.specs.Table.{malformed, misplaced, wrong-length, one-too-many, unordered, miscounted, no-gates, kind, frame-length, end-count}
-use Rattle.frames.specs.Frames.{frame, judged, line-from, byte-from, word-from}
+use Rattle.frames.specs.Frames.{frame, judged, byte-from, word-from}
+use Rattle.frames.specs.steps.Cut.{line-from}
 use Rattle.frames.proofs.Formed.{Formed, formed, any-place}
 use Rattle.frames.proofs.Rows.{judged-4, judged-7, judged-8, judged-frame}
 use Rattle.frames.proofs.OfLine.{kind-is, length-is, next-is, end-count-is}
@@ -58,7 +60,7 @@ module _ (text : List ℕ) (at end gates line : ℕ) (formed-line : malformed Op
     typed : kind (line-from text at end) ≡ 0x0F
     typed = kind-is form ∙ is
 
-    pub end-4 : (end - at ≡ 6 → ⊥) → Refused 4 line ≡ judged at (AfterGates gates) line (line-from text at end)
+    pub end-4 : (end - at ≡ 6 → ⊥) → Refused (at-line 4 line) ≡ judged at (AfterGates gates) line (line-from text at end)
     end-4 h =
         let l = line-from text at end in
         sym
@@ -71,7 +73,7 @@ module _ (text : List ℕ) (at end gates line : ℕ) (formed-line : malformed Op
           let l = line-from text at end in
           end-length gates l typed ∙ ap not (eq-eqb (frame-length l) 3 (omega (arith, length-is form)))
 
-      pub end-7 : (word-from text (at + 2) ≡ gates → ⊥) → Refused 7 line ≡ judged at (AfterGates gates) line (line-from text at end)
+      pub end-7 : (word-from text (at + 2) ≡ gates → ⊥) → Refused (at-line 7 line) ≡ judged at (AfterGates gates) line (line-from text at end)
       end-7 h =
           let l = line-from text at end in
           sym
@@ -84,7 +86,7 @@ module _ (text : List ℕ) (at end gates line : ℕ) (formed-line : malformed Op
             let l = line-from text at end in
             end-counts gates l typed ∙ ap not (eq-eqb (end-count l) gates (end-count-is form six-digits ∙ counted))
 
-        pub end-8 : gates ≡ 0 → Refused 8 line ≡ judged at (AfterGates gates) line (line-from text at end)
+        pub end-8 : gates ≡ 0 → Refused (at-line 8 line) ≡ judged at (AfterGates gates) line (line-from text at end)
         end-8 h =
             let l = line-from text at end in
             sym

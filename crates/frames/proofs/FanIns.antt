@@ -16,7 +16,9 @@ use Rattle.frames.specs.declared.Place.{Place}
 use Rattle.frames.specs.declared.LineRead.the-variants.{Gate}
 use Rattle.frames.specs.Text.{Line, lines}
 use Rattle.frames.specs.Table.{fault, kind, frame-length, gate-count, gate-fanins}
-use Rattle.frames.specs.Frames.{line-read, line-from, line-length, fan-in-from}
+use Rattle.frames.specs.Frames.{line-read, fan-in-from}
+use Rattle.frames.specs.steps.Cut.{line-from, line-length}
+use Rattle.frames.proofs.Tests.{never}
 use Rattle.frames.proofs.Formed.{formed}
 use Rattle.frames.proofs.Rows.{faultless}
 use Rattle.frames.proofs.OfLine.{length-is, fanins-length, fanin-is}
@@ -28,9 +30,6 @@ pub record FanInsRead (text : List ℕ) (at count : ℕ) (l : Line) : Type 0 whe
   pub counted : gate-count l ≡ count
   pub as-many : length (gate-fanins l) ≡ count
   pub each : (i : ℕ) → i < count → fan-in-from text at i ≡ getD (gate-fanins l) i 0
-
-never : {P : Type 0} → _≡_ {A = ℕ} 0 1 → P
-never e = absurd (omega arith)
 
 -- A faultless gate line has room for its fan-ins and for nothing else.
 second : (a b : Bool) → (a || not b) ≡ false → b ≡ true

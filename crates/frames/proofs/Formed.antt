@@ -12,7 +12,7 @@ use borrow.Author.Tests.{ltb-true, ltb-false, lt-ltb, le-ltb, eqb-true, eqb-fals
 use Rattle.frames.specs.declared.Place.{Place}
 use Rattle.frames.specs.Text.{Line, all-digits, even}
 use Rattle.frames.specs.Table.{none-there, malformed}
-use Rattle.frames.specs.Frames.{line-from}
+use Rattle.frames.specs.steps.Cut.{line-from}
 use Rattle.frames.proofs.Bytes.{even-length}
 
 pub record Formed (text : List ℕ) (at end : ℕ) : Type 0 where

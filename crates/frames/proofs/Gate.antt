@@ -14,9 +14,11 @@ use Rattle.units.specs.Units.{cells, ticks}
 use Rattle.frames.specs.declared.Place.{Place}
 use Rattle.frames.specs.declared.Place.the-variants.{Opening, AfterGates}
 use Rattle.frames.specs.declared.LineRead.the-variants.{Gate, Refused}
+use Rattle.frames.specs.Refusal.{at-line}
 use Rattle.frames.specs.Text.{Line, bytes, words}
 use Rattle.frames.specs.Table.{malformed, misplaced, wrong-length, one-too-many, unordered, miscounted, no-gates, rising-from, kind, frame-length, gate-count, gate-fanins, gate-of}
-use Rattle.frames.specs.Frames.{frame, judged, line-from, byte-from, word-from}
+use Rattle.frames.specs.Frames.{frame, judged, byte-from, word-from}
+use Rattle.frames.specs.steps.Cut.{line-from}
 use Rattle.frames.proofs.Formed.{Formed, formed, any-place}
 use Rattle.frames.proofs.Rows.{judged-4, judged-5, judged-6, judged-frame}
 use Rattle.frames.proofs.OfLine.{kind-is, length-is, next-is, count-is, weight-is, delay-is, fanins-are}
@@ -82,12 +84,12 @@ module _ (text : List ℕ) (at end gates line : ℕ) (formed-line : malformed Op
     wrong h = elim (decLt (end - at) 12) [ yes s ↦ short s | no s ↦ h (omega arith) ]
 
     told-4 : wrong-length (AfterGates gates) (line-from text at end) ≡ true
-        → Refused 4 line ≡ judged at (AfterGates gates) line (line-from text at end)
+        → Refused (at-line 4 line) ≡ judged at (AfterGates gates) line (line-from text at end)
     told-4 h =
         let l = line-from text at end in
         sym (judged-4 at (AfterGates gates) line l two (gate-placed gates l typed) h)
 
-    pub gate-4-count : most-fanins < byte-from text (at + 10) → Refused 4 line ≡ judged at (AfterGates gates) line (line-from text at end)
+    pub gate-4-count : most-fanins < byte-from text (at + 10) → Refused (at-line 4 line) ≡ judged at (AfterGates gates) line (line-from text at end)
     gate-4-count h =
         let l = line-from text at end in
         told-4
@@ -96,7 +98,7 @@ module _ (text : List ℕ) (at end gates line : ℕ) (formed-line : malformed Op
         ∙ ap (λ t. t || not (eqb (frame-length l) (6 + 2 * gate-count l))) (lt-ltb most-fanins (gate-count l) (omega (arith, count-is form long)))))
 
     pub gate-4-length : (end - at ≡ 12 + 4 * byte-from text (at + 10) → ⊥)
-        → Refused 4 line ≡ judged at (AfterGates gates) line (line-from text at end)
+        → Refused (at-line 4 line) ≡ judged at (AfterGates gates) line (line-from text at end)
     gate-4-length h =
         let l = line-from text at end in
         told-4
@@ -117,7 +119,7 @@ module _ (text : List ℕ) (at end gates line : ℕ) (formed-line : malformed Op
           ∙ ap₂ (λ x y. x || not y) (le-ltb most-fanins (gate-count l) (omega (arith, counted)))
           (eq-eqb (frame-length l) (6 + 2 * gate-count l) (omega (arith, length-is form, counted)))
 
-      pub gate-5 : most-gates ≤ gates → Refused 5 line ≡ judged at (AfterGates gates) line (line-from text at end)
+      pub gate-5 : most-gates ≤ gates → Refused (at-line 5 line) ≡ judged at (AfterGates gates) line (line-from text at end)
       gate-5 h =
           let l = line-from text at end in
           sym
@@ -131,7 +133,7 @@ module _ (text : List ℕ) (at end gates line : ℕ) (formed-line : malformed Op
         ordered = gate-order gates (line-from text at end) typed ∙ ap (λ xs. not (rising-from 0 gates xs)) (fanins-are text at end)
 
         pub gate-6 : rising-from 0 gates (words (bytes (slice (at + 12) end text))) ≡ false
-            → Refused 6 line ≡ judged at (AfterGates gates) line (line-from text at end)
+            → Refused (at-line 6 line) ≡ judged at (AfterGates gates) line (line-from text at end)
         gate-6 h =
             let l = line-from text at end in
             sym (judged-6 at (AfterGates gates) line l two (gate-placed gates l typed) four five (ordered ∙ ap not h))

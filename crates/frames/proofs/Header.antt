@@ -12,9 +12,11 @@ use Rattle.units.specs.Units.{cells, ticks}
 use Rattle.frames.specs.declared.Place.{Place}
 use Rattle.frames.specs.declared.Place.the-variants.{Opening}
 use Rattle.frames.specs.declared.LineRead.the-variants.{Header, Refused}
+use Rattle.frames.specs.Refusal.{at-line}
 use Rattle.frames.specs.Text.{Line}
 use Rattle.frames.specs.Table.{malformed, misplaced, wrong-length, one-too-many, unordered, miscounted, no-gates, kind, frame-length, header-capacity, header-hop}
-use Rattle.frames.specs.Frames.{frame, judged, line-from, byte-from, word-from, long-from}
+use Rattle.frames.specs.Frames.{frame, judged, byte-from, word-from}
+use Rattle.frames.specs.steps.Cut.{line-from, long-from}
 use Rattle.frames.proofs.Formed.{Formed, formed}
 use Rattle.frames.proofs.Rows.{judged-3, judged-4, judged-frame}
 use Rattle.frames.proofs.OfLine.{kind-is, length-is, next-is, capacity-is, hop-is}
@@ -46,7 +48,7 @@ module _ (text : List ℕ) (at end line : ℕ) (two : malformed Opening (line-fr
   form : Formed text at end
   form = formed Opening text at end two
 
-  pub header-3 : (byte-from text at ≡ 0x01 → ⊥) → Refused 3 line ≡ judged at Opening line (line-from text at end)
+  pub header-3 : (byte-from text at ≡ 0x01 → ⊥) → Refused (at-line 3 line) ≡ judged at Opening line (line-from text at end)
   header-3 h =
       let l = line-from text at end in
       sym
@@ -58,7 +60,7 @@ module _ (text : List ℕ) (at end line : ℕ) (two : malformed Opening (line-fr
         let l = line-from text at end in
         opening-type l ∙ ap not (eq-eqb (kind l) 0x01 (kind-is form ∙ is))
 
-    pub header-4 : (end - at ≡ 14 → ⊥) → Refused 4 line ≡ judged at Opening line (line-from text at end)
+    pub header-4 : (end - at ≡ 14 → ⊥) → Refused (at-line 4 line) ≡ judged at Opening line (line-from text at end)
     header-4 h =
         let l = line-from text at end in
         sym

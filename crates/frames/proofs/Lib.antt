@@ -1,4 +1,6 @@
--- Laws of the table; what the code reads of a line is what the line says; lines with the numbers that they are given.
+-- Laws of the table; what the code reads of a line is what the line says; lines with the numbers that they are given;
+-- digits and numbers, and what the puts write.
+pub mod Tests
 pub mod Fault
 pub mod Typed
 mod Cases
@@ -16,3 +18,7 @@ pub mod Lines
 pub mod Unique
 pub mod FanIns
 pub mod Told
+pub mod Made
+pub mod Digits
+pub mod Puts
+pub mod WrittenLines

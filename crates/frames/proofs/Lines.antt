@@ -12,7 +12,8 @@ use borrow.Author.Tests.{lt-ltb, le-ltb}
 use Rattle.frames.specs.declared.Place.{Place}
 use Rattle.frames.specs.declared.LineRead.the-variants.{Nothing}
 use Rattle.frames.specs.Text.{Line, line-feed, begin, lines}
-use Rattle.frames.specs.Frames.{judged, first-read, line-read, line-length, line-from}
+use Rattle.frames.specs.Frames.{judged, first-read, line-read}
+use Rattle.frames.specs.steps.Cut.{line-length, line-from}
 
 pub length-most : (bs : List ℕ) → line-length bs ≤ length bs
 unfolding line-length

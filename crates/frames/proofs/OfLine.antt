@@ -1,15 +1,21 @@
 -- What the table reads in a line, as the code reads it in the text.
 use Prim.Native.Nat.{ℕ, suc, _+_, _*_, _-_, _/_, _≤_, _<_}
-use mathlib.Core.Path.{_≡_, refl, ap, ap₂, _∙_}
+use mathlib.Core.Path.{_≡_, refl, sym, ap, ap₂, _∙_}
+use mathlib.Core.Bool.{true, false}
 use mathlib.Core.List.{List}
 use native.Mathlib.Omega.{arith}
 use lib.ListN.{length, getD, drop, take, length-drop}
 use lib.Seq.{slice, length-slice, getD-drop, drop-drop}
-use Rattle.frames.specs.Text.{bytes, word-at, words}
-use Rattle.frames.specs.Table.{kind, frame-length, header-capacity, header-hop, gate-count, gate-fanins, gate-of, end-count}
-use Rattle.frames.specs.Frames.{line-from, byte-from, word-from, long-from, fan-in-from}
-use Rattle.frames.proofs.Formed.{Formed}
+use borrow.Author.Tests.{not-false}
+use Rattle.model.specs.Ceilings.{most-weight, most-delay, most-hop}
+use Rattle.frames.specs.declared.Place.the-variants.{Opening}
+use Rattle.frames.specs.Text.{all-digits, bytes, word-at, words}
+use Rattle.frames.specs.Table.{malformed, kind, frame-length, header-capacity, header-hop, gate-count, gate-fanins, gate-of, end-count}
+use Rattle.frames.specs.Frames.{byte-from, word-from, fan-in-from}
+use Rattle.frames.specs.steps.Cut.{line-from, long-from}
+use Rattle.frames.proofs.Formed.{Formed, formed, malformed-digits}
 use Rattle.frames.proofs.Bytes.{length-bytes, drop-bytes, length-words, line-byte, line-word, line-long, word-here}
+use Rattle.frames.proofs.Digits.{bytes-below, word-below}
 
 -- The fan-ins of a gate line are the words behind its first twelve digits.
 pub fanins-are : (text : List ℕ) (at end : ℕ) → gate-fanins (line-from text at end) ≡ words (bytes (slice (at + 12) end text))
@@ -73,3 +79,24 @@ module _ {text : List ℕ} {at end : ℕ} (f : Formed text at end) where
         word-here (drop 6 bs) i (2 * i) refl (omega (arith, length-drop 6 bs, bytes-long))
         ∙ ap₂ (λ x y. 256 * x + y) (getD-drop 6 bs (2 * i) 0) (getD-drop 6 bs (suc (2 * i)) 0 ∙ ap (λ n. getD bs n 0) (omega arith))
         ∙ line-word text at end fits (6 + 2 * i) (at + 12 + 4 * i) (omega arith) (omega arith)
+
+-- Two bytes of a line that is not malformed say at most 65,535, since each of its digits counts below 16. So no weight, no delay and
+-- no D that a line says lies above its ceiling.
+module _ (text : List ℕ) (at end : ℕ) (two : malformed Opening (line-from text at end) ≡ false) where
+  form : Formed text at end
+  form = formed Opening text at end two
+
+  word-most : (i k : ℕ) → k ≡ at + 2 * i → k + 3 < end → word-from text k ≤ 65_535
+  word-most i k e h =
+      let ds = slice at end text in
+      let spelled : all-digits ds ≡ true = not-false (all-digits ds) (sym (malformed-digits Opening text at end form) ∙ two) in
+      omega (arith, line-word text at end (fits form) i k e h, word-below (bytes ds) i (bytes-below ds spelled))
+
+  pub hop-most : end - at ≡ 14 → word-from text (at + 10) ≤ most-hop
+  hop-most e = word-most 5 (at + 10) (omega arith) (omega arith)
+
+  pub weight-most : 12 ≤ end - at → word-from text (at + 2) ≤ most-weight
+  weight-most h = word-most 1 (at + 2) (omega arith) (omega arith)
+
+  pub delay-most : 12 ≤ end - at → word-from text (at + 6) ≤ most-delay
+  delay-most h = word-most 3 (at + 6) (omega arith) (omega arith)

@@ -1,16 +1,17 @@
 -- The rule of the table, row by row: a line answers with the first row that is given, and is a frame where none is.
 use Prim.Native.Nat.{ℕ, _+_}
 use mathlib.Core.Path.{_≡_, refl, sym, _∙_}
-use mathlib.Core.Bool.{Bool, true, false, cond}
+use mathlib.Core.Bool.{true, false, cond}
 use mathlib.Core.Option.{Option, none, some}
-use native.Mathlib.Omega.{arith}
 use lib.ListN.{length}
 use Rattle.frames.specs.declared.Place.{Place}
 use Rattle.frames.specs.declared.Place.the-variants.{Closed}
 use Rattle.frames.specs.declared.LineRead.the-variants.{Refused}
+use Rattle.frames.specs.Refusal.{at-line}
 use Rattle.frames.specs.Text.{Line}
 use Rattle.frames.specs.Table.{malformed, misplaced, wrong-length, one-too-many, unordered, miscounted, no-gates, fault}
 use Rattle.frames.specs.Frames.{frame, told, judged}
+use Rattle.frames.proofs.Tests.{passed}
 
 -- The table read as one choice after the other.
 rows : Place → Line → Option ℕ
@@ -32,37 +33,37 @@ unfolding judged rows
 judged-is at p line l = refl
 
 module _ (at : ℕ) (p : Place) (line : ℕ) (l : Line) where
-  pub judged-2 : malformed p l ≡ true → judged at p line l ≡ Refused 2 line
+  pub judged-2 : malformed p l ≡ true → judged at p line l ≡ Refused (at-line 2 line)
   unfolding rows told
   judged-2 two = rw (judged-is at p line l) (simp two)
 
   module _ (two : malformed p l ≡ false) where
-    pub judged-3 : misplaced p l ≡ true → judged at p line l ≡ Refused 3 line
+    pub judged-3 : misplaced p l ≡ true → judged at p line l ≡ Refused (at-line 3 line)
     unfolding rows told
     judged-3 three = rw (judged-is at p line l) (simp (two, three))
 
     module _ (three : misplaced p l ≡ false) where
-      pub judged-4 : wrong-length p l ≡ true → judged at p line l ≡ Refused 4 line
+      pub judged-4 : wrong-length p l ≡ true → judged at p line l ≡ Refused (at-line 4 line)
       unfolding rows told
       judged-4 four = rw (judged-is at p line l) (simp (two, three, four))
 
       module _ (four : wrong-length p l ≡ false) where
-        pub judged-5 : one-too-many p l ≡ true → judged at p line l ≡ Refused 5 line
+        pub judged-5 : one-too-many p l ≡ true → judged at p line l ≡ Refused (at-line 5 line)
         unfolding rows told
         judged-5 five = rw (judged-is at p line l) (simp (two, three, four, five))
 
         module _ (five : one-too-many p l ≡ false) where
-          pub judged-6 : unordered p l ≡ true → judged at p line l ≡ Refused 6 line
+          pub judged-6 : unordered p l ≡ true → judged at p line l ≡ Refused (at-line 6 line)
           unfolding rows told
           judged-6 six = rw (judged-is at p line l) (simp (two, three, four, five, six))
 
           module _ (six : unordered p l ≡ false) where
-            pub judged-7 : miscounted p l ≡ true → judged at p line l ≡ Refused 7 line
+            pub judged-7 : miscounted p l ≡ true → judged at p line l ≡ Refused (at-line 7 line)
             unfolding rows told
             judged-7 seven = rw (judged-is at p line l) (simp (two, three, four, five, six, seven))
 
             module _ (seven : miscounted p l ≡ false) where
-              pub judged-8 : no-gates p l ≡ true → judged at p line l ≡ Refused 8 line
+              pub judged-8 : no-gates p l ≡ true → judged at p line l ≡ Refused (at-line 8 line)
               unfolding rows told
               judged-8 eight = rw (judged-is at p line l) (simp (two, three, four, five, six, seven, eight))
 
@@ -71,7 +72,7 @@ module _ (at : ℕ) (p : Place) (line : ℕ) (l : Line) where
               judged-frame eight = rw (judged-is at p line l) (simp (two, three, four, five, six, seven, eight))
 
 -- After the end frame no line is in its place.
-pub closed-3 : (at line : ℕ) (l : Line) → malformed Closed l ≡ false → judged at Closed line l ≡ Refused 3 line
+pub closed-3 : (at line : ℕ) (l : Line) → malformed Closed l ≡ false → judged at Closed line l ≡ Refused (at-line 3 line)
 unfolding misplaced
 closed-3 at line l two = judged-3 at Closed line l two refl
 
@@ -85,19 +86,15 @@ pub record Faultless (p : Place) (l : Line) : Type 0 where
   pub counted : miscounted p l ≡ false
   pub some-gates : no-gates p l ≡ false
 
-not-given : (b : Bool) (k : ℕ) (o : Option ℕ) → cond b (some k) o ≡ none → (b ≡ false) × (o ≡ none)
-not-given true k o e = let z : _≡_ {A = ℕ} 0 1 = cc in absurd (omega arith)
-not-given false k o e = (refl, e)
-
 pub faultless : (p : Place) (l : Line) → fault p l ≡ none → Faultless p l
 unfolding rows
 faultless p l e =
-    let two = not-given _ _ _ (sym (rows-are p l) ∙ e) in
-    let three = not-given _ _ _ (two .1) in
-    let four = not-given _ _ _ (three .1) in
-    let five = not-given _ _ _ (four .1) in
-    let six = not-given _ _ _ (five .1) in
-    let seven = not-given _ _ _ (six .1) in
+    let two = passed _ _ _ (sym (rows-are p l) ∙ e) in
+    let three = passed _ _ _ (two .1) in
+    let four = passed _ _ _ (three .1) in
+    let five = passed _ _ _ (four .1) in
+    let six = passed _ _ _ (five .1) in
+    let seven = passed _ _ _ (six .1) in
     record {
       formed = two .0;
       placed = three .0;
@@ -105,5 +102,5 @@ faultless p l e =
       within = five .0;
       ordered = six .0;
       counted = seven .0;
-      some-gates = not-given _ _ _ (seven .1) .0;
+      some-gates = passed _ _ _ (seven .1) .0;
     }

@@ -19,24 +19,24 @@ use Rattle.units.specs.declared.FanInCount.{FanInCount}
 use Rattle.frames.specs.declared.Place.{Place}
 use Rattle.frames.specs.declared.LineRead.{LineRead}
 use Rattle.frames.specs.declared.LineRead.the-variants.{Header, Gate, End, Refused, Nothing}
+use Rattle.frames.specs.declared.Refusal.{Refusal}
+use Rattle.frames.specs.Refusal.{at-line}
 use Rattle.frames.specs.Text.{Line, lines}
 use Rattle.frames.specs.Table.{fault, kind, header-capacity, header-hop, gate-of, gate-count}
-use Rattle.frames.specs.Frames.{frame, told, judged, line-read, line-from, line-length}
+use Rattle.frames.specs.Frames.{frame, told, judged, line-read}
+use Rattle.frames.specs.steps.Cut.{line-from, line-length}
+use Rattle.frames.proofs.Tests.{never}
 use Rattle.frames.proofs.Formed.{formed}
 use Rattle.frames.proofs.Rows.{faultless}
 use Rattle.frames.proofs.OfLine.{next-is}
 use Rattle.frames.proofs.Lines.{lines-from, read-first, read-past}
-
--- Two constructors are never equal.
-never : {P : Type 0} → _≡_ {A = ℕ} 0 1 → P
-never e = absurd (omega arith)
 
 -- where the next line begins, if the answer is a frame
 abbrev pub next-of : LineRead → Option ℕ
 next-of (Header c h n) = some n
 next-of (Gate w d k n) = some n
 next-of (End n) = some n
-next-of (Refused k m) = none
+next-of (Refused r) = none
 next-of Nothing = none
 
 -- The first line of those left is without fault, and is the frame that was read; the others begin at `next`.
@@ -87,10 +87,11 @@ unfolding told
 none-told none line f r next e n = (refl, e)
 none-told (some k) line f r next e n = never (cc (ap next-of e))
 
-some-told : (o : Option ℕ) (line : ℕ) (f : LineRead) (n k m : ℕ) → next-of f ≡ some n → told o line f ≡ Refused k m → (o ≡ some k) × (m ≡ line)
+some-told : (o : Option ℕ) (line : ℕ) (f : LineRead) (n : ℕ) (r : Refusal) → next-of f ≡ some n → told o line f ≡ Refused r
+    → (o ≡ some (r .number)) × (r ≡ at-line (r .number) line)
 unfolding told
-some-told none line f n k m h e = never cc
-some-told (some j) line f n k m h e = (cc, cc)
+some-told none line f n r h e = never cc
+some-told (some j) line f n r h e = let same : at-line j line ≡ r = cc in rw (← same) (refl, refl)
 
 nothing-judged : (o : Option ℕ) (line : ℕ) (f : LineRead) (n : ℕ) → next-of f ≡ some n → told o line f ≡ Nothing → ⊥
 unfolding told
@@ -124,17 +125,19 @@ module _ (text : List ℕ) (at : ℕ) (p : Place) (line : ℕ) where
   pub frame-told : (r : LineRead) (next : ℕ) → line-read text at p line ≡ r → next-of r ≡ some next → FrameRead text at p next r
   frame-told r next e n = ⊎-elim (λ h. never (cc (read-past text at p line h))) (λ h. there h r next e n) left
 
-  refused-there : at < length text → (k m : ℕ) → line-read text at p line ≡ Refused k m → FaultRead text at p k × (m ≡ line)
+  refused-there : at < length text → (r : Refusal) → line-read text at p line ≡ Refused r
+      → FaultRead text at p (r .number) × (r ≡ at-line (r .number) line)
   unfolding judged
-  refused-there h k m e =
+  refused-there h r e =
       let end = at + line-length (drop at text) in
       let l = line-from text at end in
       let n = at + length (slice at end text) + 1 in
-      let given = some-told (fault p l) line (frame l n) n k m (frame-next l n) (sym (read-first text at end h refl p line) ∙ e) in
+      let given = some-told (fault p l) line (frame l n) n r (frame-next l n) (sym (read-first text at end h refl p line) ∙ e) in
       (record { line = l; rest = lines (drop (end + 1) text); first = lines-from text at end h refl; wrong = given .0 }, given .1)
 
-  pub refused-told : (k m : ℕ) → line-read text at p line ≡ Refused k m → FaultRead text at p k × (m ≡ line)
-  refused-told k m e = ⊎-elim (λ h. never (cc (read-past text at p line h))) (λ h. refused-there h k m e) left
+  pub refused-told : (r : Refusal) → line-read text at p line ≡ Refused r
+      → FaultRead text at p (r .number) × (r ≡ at-line (r .number) line)
+  refused-told r e = ⊎-elim (λ h. never (cc (read-past text at p line h))) (λ h. refused-there h r e) left
 
   nothing-there : at < length text → line-read text at p line ≡ Nothing → ⊥
   unfolding judged

@@ -10,7 +10,8 @@ use lib.Seq.{drop-cons, slice, slice-cons, length-slice}
 use borrow.Author.Tests.{eq-eqb, ne-eqb, lt-ltb, le-ltb, le-leb, lt-leb}
 use Rattle.frames.specs.Text.{line-feed, digit, all-digits, bytes, words}
 use Rattle.frames.specs.Table.{rising-from}
-use Rattle.frames.specs.Frames.{line-length, word-from}
+use Rattle.frames.specs.Frames.{word-from}
+use Rattle.frames.specs.steps.Cut.{line-length}
 use Rattle.frames.proofs.Bytes.{length-bytes, length-words}
 
 pub length-past : (text : List ℕ) (i : ℕ) → length text ≤ i → line-length (drop i text) ≡ 0

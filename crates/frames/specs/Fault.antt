@@ -2,22 +2,34 @@
 use Prim.Native.Nat.{ℕ, _<_}
 use mathlib.Core.Path.{_≡_}
 use mathlib.Core.Bool.{true, false}
-use mathlib.Core.List.{List, List·Memᴰ}
+use mathlib.Core.List.{List, _∷_, _++_, List·Memᴰ}
 use Rattle.frames.specs.declared.Place.{Place}
 use Rattle.frames.specs.Text.{Line}
 use Rattle.frames.specs.Table.{Row, table}
 
--- "Given exactly when" the row of the number holds; "in it the lowest number": no row of a lower number holds.
+-- "Given exactly when" the row of the number holds, and no row that stands before it in the table.
 pub record GivenBy (rows : List Row) (k : ℕ) (p : Place) (l : Line) : Type 0 where
+  pub before : List Row
   pub row : Row
-  pub listed : List·Memᴰ row rows
+  pub after : List Row
+  pub listed : rows ≡ before ++ (row ∷ after)
   pub numbered : row .number ≡ k
   pub holds : row .given p l ≡ true
-  pub lowest : (r : Row) → List·Memᴰ r rows → r .number < k → r .given p l ≡ false
+  pub clear : (r : Row) → List·Memᴰ r before → r .given p l ≡ false
 
 -- no row holds
 pub record FaultlessBy (rows : List Row) (p : Place) (l : Line) : Type 0 where
   pub clear : (r : Row) → List·Memᴰ r rows → r .given p l ≡ false
+
+-- "in it the lowest number": each number of the rows is below all numbers behind it, so that the first row that holds is
+-- the one of the lowest number.
+pub record Rises (rows : List Row) : Type 0 where
+  pub below : (before : List Row) (row : Row) (after : List Row) → rows ≡ before ++ (row ∷ after)
+      → (r : Row) → List·Memᴰ r after → row .number < r .number
+
+-- no row of a lower number holds
+pub record LowestBy (rows : List Row) (k : ℕ) (p : Place) (l : Line) : Type 0 where
+  pub clear : (r : Row) → List·Memᴰ r rows → r .number < k → r .given p l ≡ false
 
 -- the same of the table of document 01
 abbrev pub Given : ℕ → Place → Line → Type 0

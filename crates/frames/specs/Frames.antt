@@ -1,16 +1,16 @@
 -- What reading one line answers: document 01's "Each line read gives either a frame or a refusal number with its line."
-use Prim.Native.Nat.{ℕ, suc, _+_, _*_}
+use Prim.Native.Nat.{ℕ, _+_, _*_}
 use mathlib.Core.Bool.{cond}
 use mathlib.Core.List.{List, [], _∷_}
 use mathlib.Core.Option.{Option, none, some}
 use lib.ListN.{length, getD, drop}
-use lib.Seq.{slice}
-use lib.Dec.{ltb, eqb}
+use lib.Dec.{eqb}
 use Rattle.units.specs.Units.{cells, ticks}
 use Rattle.frames.specs.declared.Place.{Place}
 use Rattle.frames.specs.declared.LineRead.{LineRead}
 use Rattle.frames.specs.declared.LineRead.the-variants.{Header, Gate, End, Refused, Nothing}
-use Rattle.frames.specs.Text.{Line, line-feed, lines, digit}
+use Rattle.frames.specs.Refusal.{at-line}
+use Rattle.frames.specs.Text.{Line, lines, digit}
 use Rattle.frames.specs.Table.{kind, header-capacity, header-hop, gate-of, gate-count, fault}
 
 -- The frame that a line without fault is, and where the next line begins.
@@ -25,7 +25,7 @@ frame l next =
 -- A fault is told at its line.
 unfoldable pub told : Option ℕ → ℕ → LineRead → LineRead
 told none line r = r
-told (some k) line r = Refused k line
+told (some k) line r = Refused (at-line k line)
 
 -- What a line answers that begins at a place of the text: the next begins behind its line feed.
 unfoldable pub judged : ℕ → Place → ℕ → Line → LineRead
@@ -56,19 +56,7 @@ unfoldable pub word-from : List ℕ → ℕ → ℕ
 unfolding byte-from
 word-from text k = 256 * byte-from text k + byte-from text (k + 2)
 
-unfoldable pub long-from : List ℕ → ℕ → ℕ
-unfolding word-from
-long-from text k = 65_536 * word-from text k + word-from text (k + 4)
-
 -- "02 gate: weight (2), delay (2), fan-in count (1), each fan-in (2)": two digits a byte, the type first.
 unfoldable pub fan-in-from : List ℕ → ℕ → ℕ → ℕ
 unfolding word-from
 fan-in-from text at i = word-from text (at + 12 + 4 * i)
-
--- The digits up to the line feed, and the line so cut out of the text.
-unfoldable pub line-length : List ℕ → ℕ
-line-length [] = 0
-line-length (b ∷ bs) = cond (eqb b line-feed) 0 (suc (line-length bs))
-
-abbrev pub line-from : List ℕ → ℕ → ℕ → Line
-line-from text at end = record { digits = slice at end text; ended = ltb end (length text) }

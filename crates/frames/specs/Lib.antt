@@ -1,5 +1,9 @@
--- Document 01, "Frames" and "Refusal numbers", as far as they speak of one line.
+-- Document 01, "Frames" and "Refusal numbers", as far as they speak of one line; `steps` is for the code alone.
+pub mod Refusal
 pub mod Text
 pub mod Table
 pub mod Fault
 pub mod Frames
+pub mod Digits
+pub mod Put
+pub mod steps

@@ -116,7 +116,7 @@ pub record Row : Type 0 where
   pub number : ℕ
   pub given : Place → Line → Bool
 
--- The table: a row a number, the lowest first.
+-- The table: a row a number, in the order in which they are given.
 unfoldable pub table : List Row
 unfolding malformed misplaced wrong-length one-too-many unordered miscounted no-gates
 table =
@@ -129,14 +129,15 @@ table =
     ∷ record { number = 8; given = no-gates }
     ∷ []
 
--- "the first faulty line decides, in it the lowest number": the number of a line, if it is faulty where it stands.
-unfoldable pub lowest : List Row → Place → Line → Option ℕ
-lowest [] p l = none
-lowest (r ∷ rs) p l = cond (r .given p l) (some (r .number)) (lowest rs p l)
+-- "the first faulty line decides, in it the lowest number": the number of a line, if it is faulty where it stands. The
+-- table's rows rise, so the lowest number is that of the first row that holds.
+unfoldable pub first-given : List Row → Place → Line → Option ℕ
+first-given [] p l = none
+first-given (r ∷ rs) p l = cond (r .given p l) (some (r .number)) (first-given rs p l)
 
 unfoldable pub fault : Place → Line → Option ℕ
-unfolding lowest table
-fault p l = lowest table p l
+unfolding first-given table
+fault p l = first-given table p l
 
 -- where the next line stands, after a line without fault
 unfoldable pub next-place : Place → Line → Place

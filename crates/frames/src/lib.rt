@@ -1,4 +1,5 @@
-// One line of a network's text: hexadecimal read into a frame, or the number of its refusal with its line.
+// One line of a text, in both directions: hexadecimal read into a frame, or the number of its refusal with its line; and,
+// in `put`, bytes and words written as digits.
 //
 // `read_line` finds the line that begins at a place of the text and answers by the table of refusal numbers: 2 for the
 // line's form, then by what stood before it 3 for its type, 4 for its length, 5 and 6 for a gate, 7 and 8 for the end.
@@ -11,20 +12,33 @@ ghost use lib.ListN.{length, drop};
 ghost use lib.Seq.{slice};
 ghost use Rattle.frames.specs.Text.{digit, all-digits, bytes, words};
 ghost use Rattle.frames.specs.Table.{malformed, rising-from};
-ghost use Rattle.frames.specs.Frames.{judged, line-read, digit-at, byte-from, word-from, long-from, fan-in-from, line-length, line-from};
+ghost use Rattle.frames.specs.Frames.{judged, line-read, digit-at, byte-from, word-from, fan-in-from};
+ghost use Rattle.frames.specs.steps.Cut.{long-from, line-length, line-from};
+ghost use Rattle.frames.specs.Refusal.{at-line, at-no-line, no-room};
 ghost use Rattle.frames.specs.declared.Place.the-variants.{Opening, AfterGates};
+ghost use Rattle.frames.specs.declared.LineRead.the-variants.{Refused};
 use units::Cells;
 use units::Counted;
+use units::Delayed;
 use units::FanInCount;
 use units::GateNumber;
 use units::Numbered;
 use units::Ticks;
+use units::Weighed;
+
+pub mod put;
 
 // What stood before a line: nothing; the header and so many gates; the end frame.
 pub enum Place {
     Opening,
     AfterGates(usize),
     Closed,
+}
+
+// A refusal: document 01's number and line.
+pub struct Refusal {
+    pub number: u8,
+    pub line: usize,
 }
 
 // What reading a line gives: a frame and where the next line begins, a refusal, or that the text ends here.
@@ -43,15 +57,23 @@ pub enum LineRead {
     End {
         next: usize,
     },
-    Refused {
-        number: u8,
-        line: usize,
-    },
+    Refused(Refusal),
     Nothing,
 }
 
-// The refusal numbers that one line can give, lowest first. An empty line, a bad digit, an odd digit count, or a last
-// line that is not ended:
+// What writing a line answers: its length, line feed included, or a refusal.
+pub enum Written {
+    Line(usize),
+    Refused(Refusal),
+}
+
+// "Text 24,576 bytes."
+pub const MOST_TEXT: usize = 24_576;
+
+// The refusal numbers. A text above its ceiling:
+pub const TOO_LONG: u8 = 1;
+
+// What one line can give. An empty line, a bad digit, an odd digit count, or a last line that is not ended:
 pub const MALFORMED: u8 = 2;
 
 // An unknown or misplaced type:
@@ -71,6 +93,34 @@ pub const MISCOUNTED: u8 = 7;
 
 // An 0F with no gates before it:
 pub const NO_GATES: u8 = 8;
+
+// A gate heavier than M:
+pub const TOO_HEAVY: u8 = 9;
+
+// A lent row too short for the network, or for what was asked to be written:
+pub const TOO_SHORT: u8 = 10;
+
+impl Refusal {
+    pub fn at_line(number: u8, line: usize) -> Refusal
+        ensures { λ r. ⌜ r ≡ at-line number line ⌝ }
+    {
+        Refusal { number, line }
+    }
+
+    // Line 0: no line of the text is at fault.
+    pub fn at_no_line(number: u8) -> Refusal
+        ensures { λ r. ⌜ r ≡ at-no-line number ⌝ }
+    {
+        Refusal::at_line(number, 0)
+    }
+
+    // A lent row is too short.
+    pub fn no_room() -> Refusal
+        ensures { λ r. ⌜ r ≡ no-room ⌝ }
+    {
+        Refusal::at_no_line(TOO_SHORT)
+    }
+}
 
 // What a byte counts for that is no digit.
 const NO_DIGIT: u8 = 16;
@@ -195,6 +245,13 @@ fn well_formed(text: &[u8], at: usize, end: usize) -> bool
     all_digits(text, at, end)
 }
 
+// A line's number, told at the line.
+fn refused(number: u8, line: usize) -> LineRead
+    ensures { λ r. ⌜ r ≡ Refused (at-line number line) ⌝ }
+{
+    LineRead::Refused(Refusal::at_line(number, line))
+}
+
 // The type of a header.
 const HEADER_TYPE: u64 = 0x01;
 
@@ -210,21 +267,18 @@ fn read_header(text: &[u8], at: usize, end: usize, line: usize) -> LineRead
     ensures { λ r. ⌜ r ≡ judged at Opening line (line-from (now (text .entry)) at end) ⌝ }
 {
     if byte_at(text, at) != HEADER_TYPE {
-        return LineRead::Refused {
-            number: MISPLACED,
-            line,
-        };
+        return refused(MISPLACED, line);
     }
     if end - at != HEADER_DIGITS {
-        return LineRead::Refused {
-            number: WRONG_LENGTH,
-            line,
-        };
+        return refused(WRONG_LENGTH, line);
     }
-    // M stands behind the type, D behind M.
+    // M stands behind the type, D behind M. D is always made: two bytes say at most 65,535.
+    let Delayed::Made(hop) = Ticks::delay(word_at(text, at + 10)) else {
+        return refused(WRONG_LENGTH, line);
+    };
     LineRead::Header {
         capacity: Cells(long_at(text, at + 2)),
-        hop: Ticks(word_at(text, at + 10)),
+        hop,
         next: end + 1,
     }
 }
@@ -257,33 +311,27 @@ fn read_gate(text: &[u8], at: usize, end: usize, gates: usize, line: usize) -> L
     // The count of fan-ins stands behind type, weight and delay.
     let fan_ins = byte_at(text, at + 10) as usize;
     let Counted::Made(count) = FanInCount::new(fan_ins) else {
-        return LineRead::Refused {
-            number: WRONG_LENGTH,
-            line,
-        };
+        return refused(WRONG_LENGTH, line);
     };
     if end - at != BEFORE_FAN_INS + 4 * fan_ins {
-        return LineRead::Refused {
-            number: WRONG_LENGTH,
-            line,
-        };
+        return refused(WRONG_LENGTH, line);
     }
     let Numbered::Made(gate) = GateNumber::new(gates) else {
-        return LineRead::Refused {
-            number: ONE_TOO_MANY,
-            line,
-        };
+        return refused(ONE_TOO_MANY, line);
     };
     if !rising(text, at + BEFORE_FAN_INS, end, gate) {
-        return LineRead::Refused {
-            number: UNORDERED,
-            line,
-        };
+        return refused(UNORDERED, line);
     }
-    // The weight stands behind the type, the delay behind the weight.
+    // The weight stands behind the type, the delay behind the weight. Both are always made: two bytes say at most 65,535.
+    let Weighed::Made(weight) = Cells::weight(word_at(text, at + 2)) else {
+        return refused(WRONG_LENGTH, line);
+    };
+    let Delayed::Made(delay) = Ticks::delay(word_at(text, at + 6)) else {
+        return refused(WRONG_LENGTH, line);
+    };
     LineRead::Gate {
-        weight: Cells(word_at(text, at + 2)),
-        delay: Ticks(word_at(text, at + 6)),
+        weight,
+        delay,
         count,
         next: end + 1,
     }
@@ -296,23 +344,14 @@ fn read_end(text: &[u8], at: usize, end: usize, gates: usize, line: usize) -> Li
     ensures { λ r. ⌜ r ≡ judged at (AfterGates gates) line (line-from (now (text .entry)) at end) ⌝ }
 {
     if end - at != END_DIGITS {
-        return LineRead::Refused {
-            number: WRONG_LENGTH,
-            line,
-        };
+        return refused(WRONG_LENGTH, line);
     }
     // The number of gates stands behind the type.
     if word_at(text, at + 2) != gates as u64 {
-        return LineRead::Refused {
-            number: MISCOUNTED,
-            line,
-        };
+        return refused(MISCOUNTED, line);
     }
     if gates == 0 {
-        return LineRead::Refused {
-            number: NO_GATES,
-            line,
-        };
+        return refused(NO_GATES, line);
     }
     LineRead::End { next: end + 1 }
 }
@@ -329,10 +368,7 @@ fn read_after_header(text: &[u8], at: usize, end: usize, gates: usize, line: usi
     if kind == END_TYPE {
         return read_end(text, at, end, gates, line);
     }
-    LineRead::Refused {
-        number: MISPLACED,
-        line,
-    }
+    refused(MISPLACED, line)
 }
 
 // The line that begins at `at`, by what stood before it: its frame and where the next line begins, or the lowest number
@@ -345,17 +381,11 @@ pub fn read_line(text: &[u8], at: usize, place: Place, line: usize) -> LineRead
     }
     let end = line_end(text, at);
     if !well_formed(text, at, end) {
-        return LineRead::Refused {
-            number: MALFORMED,
-            line,
-        };
+        return refused(MALFORMED, line);
     }
     match place {
         Place::Opening => read_header(text, at, end, line),
         Place::AfterGates(gates) => read_after_header(text, at, end, gates, line),
-        Place::Closed => LineRead::Refused {
-            number: MISPLACED,
-            line,
-        },
+        Place::Closed => refused(MISPLACED, line),
     }
 }

@@ -4,7 +4,8 @@ pub mod OrderLaws
 pub mod GrowthLaws
 pub mod LabelLaws
 pub mod LabelsLaws
-pub mod Loaded
 pub mod MemberLaws
+pub mod Found
+pub mod Room
 pub mod Promises
 pub mod Unique

@@ -1,4 +1,4 @@
--- What the public functions promise, case by case.
+-- What the public functions promise, case by case: of a refused row, and of a network that `check` found in it.
 use Prim.Native.Nat.{ℕ, _≤_, _<_}
 use mathlib.Core.Path.{_≡_, _∙_, ap}
 use mathlib.Core.Logic.{⊎-elim}
@@ -15,60 +15,19 @@ use Rattle.model.proofs.Lists.{true-or-false, false-member, keep-none, upto-in}
 use Rattle.model.proofs.Networks.{reader-known, reads-something}
 use Rattle.model.proofs.Growth.{cluster-of-input}
 use Rattle.model.proofs.Label.{labels-length}
-use Rattle.network.specs.Reading.{refused, network}
-use Rattle.network.specs.Rows.{Rows, rows-of, rows-network}
-use Rattle.network.specs.Spelling.{rows-answer}
-use Rattle.network.specs.Writing.{row-unless}
-use Rattle.network.proofs.RowLaws.{room}
-use Rattle.network.proofs.Checked.{rows-network-size}
-use Rattle.network.proofs.Spellable.{Standing}
-use Rattle.labelling.specs.Loaded.{Loaded}
-use Rattle.labelling.specs.Members.{written}
-use Rattle.labelling.specs.Promises.{in-lent, labelled, clustered, label-answer, LabelledInto, either-short, cluster-answer, ClusteredInto}
+use Rattle.frames.specs.declared.Refusal.{Refusal}
+use Rattle.frames.specs.Refusal.{no-room}
+use Rattle.texts.specs.Reading.{refused}
+use Rattle.rows.specs.declared.Header.{Header}
+use Rattle.rows.specs.Row.{network-in}
+use Rattle.rows.specs.Spelling.{row-answer}
+use Rattle.rows.proofs.Holds.{network-size}
+use Rattle.rows.proofs.Checked.{Known}
+use Rattle.labelling.specs.Promises.{written, label-answer, label-row, LabelledInto, either-short, cluster-answer, cluster-row, ClusteredInto}
 use Rattle.labelling.specs.declared.Labelled.{Labelled}
 use Rattle.labelling.specs.declared.Labelled.the-variants as Labelled
 use Rattle.labelling.specs.declared.Clustered.{Clustered}
 use Rattle.labelling.specs.declared.Clustered.the-variants as Clustered
-
--- rows that answer a network have what labelling requires
-pub standing-loaded :
-    (capacity hop gates : ℕ) (weights delays counts fanins : List ℕ)
-    → Standing capacity hop gates (rows-of weights delays counts fanins) (rows-network capacity hop gates (rows-of weights delays counts fanins))
-    → Loaded capacity hop gates weights delays counts fanins
-standing-loaded capacity hop gates weights delays counts fanins s =
-    let r = room gates (rows-of weights delays counts fanins) (s .spellable .long) in
-    record {
-      weights-room = r .weights;
-      delays-room = r .delays;
-      counts-room = r .counts;
-      fanins-room = r .fanins;
-      counted = s .spellable .few;
-      formed = s .well-formed;
-      within = s .within;
-    }
-
-module _ (capacity hop gates : ℕ) (rows : Rows) (labels : List ℕ) where
-  pub label-refused :
-      {k at : ℕ} → rows-answer capacity hop gates rows ≡ refused k at
-      → LabelledInto capacity hop gates rows labels (Labelled.Refused k at) labels
-  unfolding label-answer in-lent labelled row-unless
-  label-refused e = record { answer = rw e; kept = rw e }
-
-  module _ {n : Network} (e : rows-answer capacity hop gates rows ≡ network n) where
-    pub label-short : length labels < gates → LabelledInto capacity hop gates rows labels (Labelled.Refused 10 0) labels
-    unfolding label-answer in-lent labelled row-unless
-    label-short h =
-        let t = lt-ltb (length labels) gates h in
-        record { answer = rw (e, t); kept = rw (e, t) }
-
-    pub label-done :
-        {row : List ℕ} → gates ≤ length labels → row ≡ labels-of (rows-network capacity hop gates rows) ++ drop gates labels
-        → LabelledInto capacity hop gates rows labels Labelled.Done row
-    unfolding label-answer in-lent labelled row-unless
-    label-done h p =
-        let t = le-ltb (length labels) gates h in
-        let many = labels-length (rows-network capacity hop gates rows) ∙ rows-network-size capacity hop gates rows in
-        record { answer = rw (e, t); kept = rw (e, t, many) p }
 
 -- a root that is no gate has no members
 no-members : (n : Network) (labels : List ℕ) (r : ℕ) → size n ≤ r → members-of n labels r ≡ []
@@ -88,28 +47,59 @@ no-members n labels r h =
     omega (arith, reader-known n r y reads))
     (true-or-false (input n r))))
 
-module _ (capacity hop gates : ℕ) (rows : Rows) (labels : List ℕ) (root : ℕ) (members : List ℕ) where
-  pub cluster-refused :
-      {k at : ℕ} → rows-answer capacity hop gates rows ≡ refused k at
-      → ClusteredInto capacity hop gates rows labels root members (Clustered.Refused k at) members
-  unfolding cluster-answer in-lent clustered row-unless
-  cluster-refused e = record { answer = rw e; kept = rw e }
+-- labels
 
-  module _ {n : Network} (e : rows-answer capacity hop gates rows ≡ network n) where
-    pub cluster-short : either-short gates labels members ≡ true → ClusteredInto capacity hop gates rows labels root members (Clustered.Refused 10 0) members
-    unfolding cluster-answer in-lent clustered row-unless
-    cluster-short t = record { answer = rw (e, t); kept = rw (e, t) }
+pub label-refused :
+    {h : Header} {row labels : List ℕ} {f : Refusal} → row-answer h row ≡ refused f
+    → LabelledInto h row labels (Labelled.Refused f) labels
+unfolding label-answer label-row
+label-refused e = record { answer = rw e; kept = rw e }
 
-    pub cluster-done :
-        {count : ℕ} {row : List ℕ} → either-short gates labels members ≡ false
-        → count ≡ length (members-of (rows-network capacity hop gates rows) labels root)
-        → row ≡ written (members-of (rows-network capacity hop gates rows) labels root) members
-        → ClusteredInto capacity hop gates rows labels root members (Clustered.Members count) row
-    unfolding cluster-answer in-lent clustered row-unless
-    cluster-done t c p = record { answer = rw (e, t) (ap Clustered.Members c); kept = rw (e, t) p }
+module _ {h k : Header} {row labels : List ℕ} (is : Known h k row) where
+  pub label-short : length labels < k .gates → LabelledInto h row labels (Labelled.Refused no-room) labels
+  unfolding label-answer label-row
+  label-short l =
+      let t = lt-ltb (length labels) (k .gates) l in
+      record { answer = rw (is .answered, network-size k row, t); kept = rw (is .answered, network-size k row, t) }
 
-    pub cluster-of-no-gate : either-short gates labels members ≡ false → gates ≤ root → ClusteredInto capacity hop gates rows labels root members (Clustered.Members 0) members
-    cluster-of-no-gate t h =
-        let none =
-        no-members (rows-network capacity hop gates rows) labels root (omega (arith, rows-network-size capacity hop gates rows)) in
-        cluster-done t (rw none) (rw none)
+  pub label-done :
+      {after : List ℕ} → k .gates ≤ length labels → after ≡ labels-of (network-in k row) ++ drop (k .gates) labels
+      → LabelledInto h row labels Labelled.Done after
+  unfolding label-answer label-row
+  label-done l p =
+      let t = le-ltb (length labels) (k .gates) l in
+      let many = labels-length (network-in k row) ∙ network-size k row in
+      record { answer = rw (is .answered, network-size k row, t); kept = rw (is .answered, many, network-size k row, t) p }
+
+-- clusters
+
+pub cluster-refused :
+    {h : Header} {row labels : List ℕ} {root : ℕ} {members : List ℕ} {f : Refusal} → row-answer h row ≡ refused f
+    → ClusteredInto h row labels root members (Clustered.Refused f) members
+unfolding cluster-answer cluster-row
+cluster-refused e = record { answer = rw e; kept = rw e }
+
+module _ {h k : Header} {row labels : List ℕ} {root : ℕ} {members : List ℕ} (is : Known h k row) where
+  pub cluster-short :
+      either-short (k .gates) labels members ≡ true → ClusteredInto h row labels root members (Clustered.Refused no-room) members
+  unfolding cluster-answer cluster-row
+  cluster-short t = record { answer = rw (is .answered, network-size k row, t); kept = rw (is .answered, network-size k row, t) }
+
+  pub cluster-done :
+      {count : ℕ} {after : List ℕ} → either-short (k .gates) labels members ≡ false
+      → count ≡ length (members-of (network-in k row) labels root)
+      → after ≡ written (members-of (network-in k row) labels root) members
+      → ClusteredInto h row labels root members (Clustered.Members count) after
+  unfolding cluster-answer cluster-row
+  cluster-done t c p =
+      record {
+        answer = rw (is .answered, network-size k row, t) (ap Clustered.Members c);
+        kept = rw (is .answered, network-size k row, t) p;
+      }
+
+  pub cluster-of-no-gate :
+      either-short (k .gates) labels members ≡ false → k .gates ≤ root
+      → ClusteredInto h row labels root members (Clustered.Members 0) members
+  cluster-of-no-gate t l =
+      let none = no-members (network-in k row) labels root (omega (arith, network-size k row)) in
+      cluster-done t (rw none) (rw none)

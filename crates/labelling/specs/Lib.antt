@@ -1,5 +1,2 @@
-pub mod Standing
-pub mod Growing
-pub mod Loaded
-pub mod Members
 pub mod Promises
+pub mod steps

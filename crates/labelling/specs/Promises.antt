@@ -2,68 +2,61 @@
 use Prim.Native.Nat.{ℕ}
 use mathlib.Core.Path.{_≡_}
 use mathlib.Core.Bool.{Bool, cond, _||_}
-use mathlib.Core.List.{List}
-use lib.ListN.{length}
+use mathlib.Core.List.{List, _++_}
+use lib.ListN.{length, drop}
 use lib.Dec.{ltb}
+use Rattle.model.specs.Network.{size}
 use Rattle.model.specs.Label.{labels as labels-of}
 use Rattle.model.specs.Drawing.{members as members-of}
-use Rattle.network.specs.Reading.{Reading, refused, network}
-use Rattle.network.specs.Rows.{Rows, rows-network}
-use Rattle.network.specs.Spelling.{rows-answer}
-use Rattle.network.specs.Writing.{row-unless}
-use Rattle.labelling.specs.Members.{written}
+use Rattle.frames.specs.Refusal.{no-room}
+use Rattle.texts.specs.Reading.{Reading, refused, network}
+use Rattle.rows.specs.declared.Header.{Header}
+use Rattle.rows.specs.Spelling.{row-answer}
 use Rattle.labelling.specs.declared.Labelled.{Labelled}
 use Rattle.labelling.specs.declared.Labelled.the-variants as Labelled
 use Rattle.labelling.specs.declared.Clustered.{Clustered}
 use Rattle.labelling.specs.declared.Clustered.the-variants as Clustered
 
--- "Then 9, then 10": rows that answer a network, with a lent row too short for it, answer 10, line 0.
-unfoldable pub in-lent : Bool → Reading → Reading
-in-lent short (refused k at) = refused k at
-in-lent short (network n) = cond short (refused 10 0) (network n)
+-- the row with the list at its front, the rest kept
+abbrev pub written : List ℕ → List ℕ → List ℕ
+written xs row = xs ++ drop (length xs) row
 
--- the refusal's number and line, or that the labels are written
-unfoldable pub labelled : Reading → Labelled
-labelled (refused k at) = Labelled.Refused k at
-labelled (network n) = Labelled.Done
+-- Labels are written into a row with one place a gate. "Then 9, then 10": a refusal of the text that the row spells is handed
+-- on, and a lent row too short for the network answers 10.
+unfoldable pub label-answer : Reading → List ℕ → Labelled
+label-answer (refused f) labels = Labelled.Refused f
+label-answer (network n) labels = cond (ltb (length labels) (size n)) (Labelled.Refused no-room) Labelled.Done
 
--- the refusal's number and line, or how many members are written
-unfoldable pub clustered : Reading → ℕ → Clustered
-clustered (refused k at) count = Clustered.Refused k at
-clustered (network n) count = Clustered.Members count
+-- The labels of the network at the front of the lent row, the rest kept. "On every refusal .. no lent row has changed."
+unfoldable pub label-row : Reading → List ℕ → List ℕ
+label-row (refused f) labels = labels
+label-row (network n) labels = cond (ltb (length labels) (size n)) labels (written (labels-of n) labels)
 
--- What rows answer with a row lent for the labels, one place a gate.
-unfoldable pub label-answer : ℕ → ℕ → ℕ → Rows → List ℕ → Reading
-unfolding in-lent rows-answer
-label-answer capacity hop gates rows labels = in-lent (ltb (length labels) gates) (rows-answer capacity hop gates rows)
-
--- The labels of the network that stands in the rows, at the front of the lent row, the rest kept. "On every refusal .. no
--- lent row has changed."
-pub record LabelledInto (capacity hop gates : ℕ) (rows : Rows) (labels : List ℕ) (r : Labelled) (row : List ℕ) : Type 0 where
-  pub answer : r ≡ labelled (label-answer capacity hop gates rows labels)
-  pub kept :
-      row
-      ≡ row-unless (label-answer capacity hop gates rows labels) labels
-      (written (labels-of (rows-network capacity hop gates rows)) labels)
+pub record LabelledInto (h : Header) (row labels : List ℕ) (r : Labelled) (after : List ℕ) : Type 0 where
+  pub answer : r ≡ label-answer (row-answer h row) labels
+  pub kept : after ≡ label-row (row-answer h row) labels
 
 -- does one of two lent rows have fewer places than there are gates
 abbrev pub either-short : ℕ → List ℕ → List ℕ → Bool
 either-short gates labels members = ltb (length labels) gates || ltb (length members) gates
 
--- What rows answer with a row of labels and a row for the members, one place a gate in each.
-unfoldable pub cluster-answer : ℕ → ℕ → ℕ → Rows → List ℕ → List ℕ → Reading
-unfolding in-lent rows-answer
-cluster-answer capacity hop gates rows labels members =
-    in-lent (either-short gates labels members) (rows-answer capacity hop gates rows)
+-- The members of the cluster of a root, rising, for any row of labels, one place a gate in each row: how many, and they stand
+-- at the front of the lent row, the rest kept. A root that is no gate has none.
+unfoldable pub cluster-answer : Reading → List ℕ → ℕ → List ℕ → Clustered
+cluster-answer (refused f) labels root members = Clustered.Refused f
+cluster-answer (network n) labels root members =
+    cond (either-short (size n) labels members) (Clustered.Refused no-room) (Clustered.Members (length (members-of n labels root)))
 
--- The members of the cluster of a root, rising, for any row of labels: how many, and they stand at the front of the lent
--- row, the rest kept. A root that is no gate has none.
-pub record ClusteredInto (capacity hop gates : ℕ) (rows : Rows) (labels : List ℕ) (root : ℕ) (members : List ℕ) (r : Clustered) (row : List ℕ) : Type 0 where
-  pub answer :
-      r
-      ≡ clustered (cluster-answer capacity hop gates rows labels members)
-      (length (members-of (rows-network capacity hop gates rows) labels root))
-  pub kept :
-      row
-      ≡ row-unless (cluster-answer capacity hop gates rows labels members) members
-      (written (members-of (rows-network capacity hop gates rows) labels root) members)
+unfoldable pub cluster-row : Reading → List ℕ → ℕ → List ℕ → List ℕ
+cluster-row (refused f) labels root members = members
+cluster-row (network n) labels root members =
+    cond (either-short (size n) labels members) members (written (members-of n labels root) members)
+
+pub record ClusteredInto (h : Header) (row labels : List ℕ) (root : ℕ) (members : List ℕ) (r : Clustered) (after : List ℕ) : Type 0 where
+  pub answer : r ≡ cluster-answer (row-answer h row) labels root members
+  pub kept : after ≡ cluster-row (row-answer h row) labels root members
+
+-- Some gates found, in front of a row, the rest of the row as it was.
+pub record Found (gates before : List ℕ) (count : ℕ) (after : List ℕ) : Type 0 where
+  pub many : count ≡ length gates
+  pub row-is : after ≡ written gates before

@@ -3,28 +3,28 @@ use crate::Order;
 use crate::Row;
 use crate::growth::Stop;
 use crate::growth::grow;
-use units::Cells;
+use rows::Header;
 use units::GateNumber;
 use units::Ticks;
 ghost use mathlib.Core.Path.{_≡_};
 ghost use mathlib.Core.List.{_++_};
 ghost use mathlib.Core.Option.{some};
-ghost use Prim.Native.Nat.{ℕ, suc, _+_, _≤_, _<_};
+ghost use Prim.Native.Nat.{ℕ, _≤_, _<_};
 ghost use lib.ListN.{length, take, drop};
-ghost use Rattle.model.specs.Ceilings.{most-gates, most-hop};
-ghost use Rattle.model.specs.Network.{Network};
+ghost use Rattle.model.specs.Ceilings.{most-gates};
 ghost use Rattle.model.specs.Label.{label-from, labels as labels-of};
-ghost use Rattle.labelling.specs.Loaded.{standing, Loaded};
-ghost use Rattle.labelling.specs.Growing.{stop-of, or-input, input-pulls, stop-pull};
 ghost use Rattle.units.specs.Units.{held-sum};
-ghost use Rattle.labelling.specs.Standing.{Whole, Below, Wired, Timed, Weighed, pull-in};
+ghost use Rattle.rows.specs.Row.{network-in};
+ghost use Rattle.rows.specs.steps.Holds.{Holds};
+ghost use Rattle.labelling.specs.steps.Standing.{Whole, Below, pull-in};
+ghost use Rattle.labelling.specs.steps.Growing.{stop-of, or-input, input-pulls, stop-pull};
 
 // The larger of a time and the pull of u, if u is a primary input.
-fn or_input(counts: &[u8], pulls: &Row, time: Ticks, u: usize) -> Ticks
-    requires { ⌜ (u < most-gates) × (u < length (now counts)) ⌝ }
-    ensures { λ r. ⌜ r .0 ≡ or-input (now (counts .entry)) (now (pulls .entry)) (time .0) u ⌝ }
+fn or_input(row: &[u16], pulls: &Row, time: Ticks, u: usize) -> Ticks
+    requires { ⌜ u < most-gates ⌝ }
+    ensures { λ r. ⌜ r .0 ≡ or-input (now (row .entry)) (now (pulls .entry)) (time .0) u ⌝ }
 {
-    if counts[u] == 0 {
+    if rows::is_input(row, u) {
         time.larger(Ticks(pulls[u]))
     } else {
         time
@@ -32,14 +32,13 @@ fn or_input(counts: &[u8], pulls: &Row, time: Ticks, u: usize) -> Ticks
 }
 
 // "the largest pull of a primary input inside (0 if none)"
-fn input_pulls(counts: &[u8], pulls: &Row, ordered: &Order, joined: usize) -> Ticks
-    requires { ⌜ Whole (now ordered) × (joined ≤ most-gates) ⌝ }
-    requires { ⌜ Below most-gates (take joined (now ordered)) × Below (length (now counts)) (take joined (now ordered)) ⌝ }
-    ensures { λ r. ⌜ r .0 ≡ input-pulls (now (counts .entry)) (now (pulls .entry)) (take joined (now (ordered .entry))) ⌝ }
+fn input_pulls(row: &[u16], pulls: &Row, ordered: &Order, joined: usize) -> Ticks
+    requires { ⌜ Whole (now ordered) × (joined ≤ most-gates) × Below most-gates (take joined (now ordered)) ⌝ }
+    ensures { λ r. ⌜ r .0 ≡ input-pulls (now (row .entry)) (now (pulls .entry)) (take joined (now (ordered .entry))) ⌝ }
 {
     let mut largest = Ticks(0);
     for i in 0..joined {
-        largest = or_input(counts, pulls, largest, ordered[i]);
+        largest = or_input(row, pulls, largest, ordered[i]);
     }
     largest
 }
@@ -65,79 +64,48 @@ fn stop_pull(hop: Ticks, pulls: &Row, stop: Stop) -> Ticks
 
 // The label of v, from the labels of the gates below it.
 fn label_one(
-    capacity: Cells,
-    hop: Ticks,
-    weights: &[u16],
-    delays: &[u16],
-    counts: &[u8],
-    fanins: &[u16],
+    header: Header,
+    row: &[u16],
     labels: &[u32],
     v: usize,
     onward: &mut Row,
     pulls: &mut Row,
     ordered: &mut Order,
 ) -> Ticks
-    requires { ⌜ Wired (suc v) (now delays) (now counts) (now fanins) × (v < length (now weights)) × (v ≤ length (now labels)) ⌝ }
-    requires { ⌜ Whole (now onward) × Whole (now pulls) × Whole (now ordered) × (hop .0 ≤ most-hop) ⌝ }
+    requires { ⌜ Holds header (now row) × (v < header .gates) × (v ≤ length (now labels)) ⌝ }
+    requires { ⌜ Whole (now onward) × Whole (now pulls) × Whole (now ordered) ⌝ }
     ensures { λ r. ⌜ Whole (now (onward .exit)) × Whole (now (pulls .exit)) × Whole (now (ordered .exit)) ⌝ }
-    ensures { λ r. ⌜ ((n : Network) → Timed n (suc v) (now (delays .entry)) (now (counts .entry)) (now (fanins .entry))
-        → Weighed n (suc v) (capacity .0) (now (weights .entry)) → n .hop ≡ hop .0
-        → r .0 ≡ label-from n (now (labels .entry)) v) ⌝ }
+    ensures { λ r. ⌜ r .0 ≡ label-from (network-in header (now (row .entry))) (now (labels .entry)) v ⌝ }
 {
-    if counts[v] == 0 {
-        return Ticks(delays[v] as u64);
+    if rows::is_input(row, v) {
+        return rows::delay(row, v);
     }
-    let grown = grow(
-        capacity,
-        weights,
-        delays,
-        counts,
-        fanins,
-        labels,
-        v,
-        onward,
-        pulls,
-        ordered,
-    );
+    let grown = grow(header, row, labels, v, onward, pulls, ordered);
+    let hop = header.hop;
     let joined = grown.joined;
     let stop = grown.stop;
-    input_pulls(counts, pulls, ordered, joined).larger(stop_pull(hop, pulls, stop))
+    input_pulls(row, pulls, ordered, joined).larger(stop_pull(hop, pulls, stop))
 }
 
 // The label of every gate, in the order of the gates.
-pub(crate) fn label_all(
-    capacity: Cells,
-    hop: Ticks,
-    gates: usize,
-    weights: &[u16],
-    delays: &[u16],
-    counts: &[u8],
-    fanins: &[u16],
-    labels: &mut [u32],
-)
-    requires { ⌜ Loaded (capacity .0) (hop .0) gates (now weights) (now delays) (now counts) (now fanins) ⌝ }
-    requires { ⌜ gates ≤ length (now labels) ⌝ }
-    ensures { λ _. ⌜ now (labels .exit)
-        ≡ labels-of (standing (capacity .0) (hop .0) gates (now (weights .entry)) (now (delays .entry)) (now (counts .entry)) (now (fanins .entry)))
-        ++ drop gates (now (labels .entry)) ⌝ }
+pub(crate) fn label_all(header: Header, row: &[u16], labels: &mut [u32])
+    requires { ⌜ Holds header (now row) × (header .gates ≤ length (now labels)) ⌝ }
+    ensures { λ _. ⌜ now (labels .exit) ≡ labels-of (network-in header (now (row .entry))) ++ drop (header .gates) (now (labels .entry)) ⌝ }
 {
+    let gates = header.gates;
     let mut onward = [0; GateNumber::MOST_GATES];
     let mut pulls = [0; GateNumber::MOST_GATES];
     let mut ordered = [0; GateNumber::MOST_GATES];
     for v in 0..gates {
         let label = label_one(
-            capacity,
-            hop,
-            weights,
-            delays,
-            counts,
-            fanins,
+            header,
+            row,
             labels,
             v,
             &mut onward,
             &mut pulls,
             &mut ordered,
         );
-        labels[v] = label.0 as u32;
+        labels[v] = label.label_place();
     }
 }

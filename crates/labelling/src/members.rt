@@ -2,18 +2,20 @@
 use crate::Marks;
 use crate::Order;
 use crate::growth::grow;
-use units::Cells;
+use rows::Header;
 use units::GateNumber;
 ghost use mathlib.Core.Path.{_≡_};
 ghost use mathlib.Core.Bool.{cond};
-ghost use Prim.Native.Nat.{suc, _+_, _≤_, _<_};
+ghost use Prim.Native.Nat.{_+_, _≤_, _<_};
 ghost use lib.ListN.{length, set, take};
 ghost use Rattle.model.specs.Ceilings.{most-gates};
-ghost use Rattle.model.specs.Network.{Network};
 ghost use Rattle.model.specs.Label.{cluster};
 ghost use Rattle.model.specs.Drawing.{mark, members as members-of};
-ghost use Rattle.labelling.specs.Members.{marked, marked-below, written};
-ghost use Rattle.labelling.specs.Standing.{Whole, Below, Wired, Timed, Weighed};
+ghost use Rattle.rows.specs.Row.{network-in};
+ghost use Rattle.rows.specs.steps.Holds.{Holds};
+ghost use Rattle.labelling.specs.Promises.{written};
+ghost use Rattle.labelling.specs.steps.Standing.{Whole, Below};
+ghost use Rattle.labelling.specs.steps.Members.{marked, marked-below};
 
 // A mark for each gate that joined.
 fn mark(inside: &mut Marks, ordered: &Order, joined: usize)
@@ -26,35 +28,20 @@ fn mark(inside: &mut Marks, ordered: &Order, joined: usize)
 }
 
 // A mark for each gate in the cluster of r. "A primary input's .. cluster is itself alone."
-fn mark_cluster(
-    capacity: Cells,
-    weights: &[u16],
-    delays: &[u16],
-    counts: &[u8],
-    fanins: &[u16],
-    labels: &[u32],
-    r: usize,
-    inside: &mut Marks,
-)
-    requires { ⌜ Wired (suc r) (now delays) (now counts) (now fanins) × (r < length (now weights)) × (r ≤ length (now labels)) ⌝ }
-    ensures { λ _. ⌜ ((n : Network)
-        → Timed n (suc r) (now (delays .entry)) (now (counts .entry)) (now (fanins .entry))
-        → Weighed n (suc r) (capacity .0) (now (weights .entry))
-        → now (inside .exit) ≡ mark (now (inside .entry)) (cluster n (now (labels .entry)) r)) ⌝ }
+fn mark_cluster(header: Header, row: &[u16], labels: &[u32], r: usize, inside: &mut Marks)
+    requires { ⌜ Holds header (now row) × (r < header .gates) × (r ≤ length (now labels)) ⌝ }
+    ensures { λ _. ⌜ now (inside .exit) ≡ mark (now (inside .entry)) (cluster (network-in header (now (row .entry))) (now (labels .entry)) r) ⌝ }
 {
     inside[r] = 1;
-    if counts[r] == 0 {
+    if rows::is_input(row, r) {
         return;
     }
     let mut onward = [0; GateNumber::MOST_GATES];
     let mut pulls = [0; GateNumber::MOST_GATES];
     let mut ordered = [0; GateNumber::MOST_GATES];
     let grown = grow(
-        capacity,
-        weights,
-        delays,
-        counts,
-        fanins,
+        header,
+        row,
         labels,
         r,
         &mut onward,
@@ -93,33 +80,17 @@ fn collect(inside: &Marks, k: usize, members: &mut [u16]) -> usize
 
 // The members of the cluster of r, rising. How many.
 pub(crate) fn cluster_of(
-    capacity: Cells,
-    weights: &[u16],
-    delays: &[u16],
-    counts: &[u8],
-    fanins: &[u16],
+    header: Header,
+    row: &[u16],
     labels: &[u32],
     r: usize,
     members: &mut [u16],
 ) -> usize
-    requires { ⌜ Wired (suc r) (now delays) (now counts) (now fanins) × (r < length (now weights)) × (r ≤ length (now labels)) ⌝ }
-    requires { ⌜ r < length (now members) ⌝ }
-    ensures { λ k. ⌜ ((n : Network)
-        → Timed n (suc r) (now (delays .entry)) (now (counts .entry)) (now (fanins .entry))
-        → Weighed n (suc r) (capacity .0) (now (weights .entry))
-        → (k ≡ length (members-of n (now (labels .entry)) r))
-        × (now (members .exit) ≡ written (members-of n (now (labels .entry)) r) (now (members .entry)))) ⌝ }
+    requires { ⌜ Holds header (now row) × (r < header .gates) × (r ≤ length (now labels)) × (r < length (now members)) ⌝ }
+    ensures { λ k. ⌜ (k ≡ length (members-of (network-in header (now (row .entry))) (now (labels .entry)) r))
+        × (now (members .exit) ≡ written (members-of (network-in header (now (row .entry))) (now (labels .entry)) r) (now (members .entry))) ⌝ }
 {
     let mut inside = [0; GateNumber::MOST_GATES];
-    mark_cluster(
-        capacity,
-        weights,
-        delays,
-        counts,
-        fanins,
-        labels,
-        r,
-        &mut inside,
-    );
+    mark_cluster(header, row, labels, r, &mut inside);
     collect(&inside, r + 1, members)
 }

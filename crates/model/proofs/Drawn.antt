@@ -38,7 +38,7 @@ set-only : (row : List ℕ) (x y : ℕ) → Marked (set row x 1) y → Marked ro
 set-only row x y h =
     ⊎-elim (λ (e : y ≡ x). inr e) (λ (d : y ≡ x → ⊥). inl (rw (getD-set-other row x y 1 0 d) at h)) (same-or-not y x)
 
-length-mark : (row xs : List ℕ) → length (mark row xs) ≡ length row
+pub length-mark : (row xs : List ℕ) → length (mark row xs) ≡ length row
 unfolding mark
 length-mark row [] = refl
 length-mark row (x ∷ xs) = length-mark (set row x 1) xs ∙ length-set row x 1

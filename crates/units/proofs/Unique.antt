@@ -12,6 +12,7 @@ use Rattle.units.proofs.Ticks.plus.Reads as ticks-plus
 use Rattle.units.proofs.Ticks.larger.Reads as ticks-larger
 use Rattle.units.proofs.Ticks.above.Reads as ticks-above
 use Rattle.units.proofs.Ticks.delay_place.Reads as ticks-delay-place
+use Rattle.units.proofs.Ticks.label_place.Reads as ticks-label-place
 use Rattle.units.proofs.GateNumber.new.Reads as gate-number-new
 use Rattle.units.proofs.FanInCount.new.Reads as fan-in-count-new
 use Rattle.units.proofs.FanInCount.count_place.Reads as fan-in-count-place
@@ -55,6 +56,9 @@ ticks-above-unique args r s exit exit′ p q = same p q
 
 pub ticks-delay-place-unique : OneOutcome (ticks-delay-place.Learnt tt)
 ticks-delay-place-unique args r s exit exit′ p q = same p q
+
+pub ticks-label-place-unique : OneOutcome (ticks-label-place.Learnt tt)
+ticks-label-place-unique args r s exit exit′ p q = same p q
 
 pub gate-number-new-unique : OneOutcome (gate-number-new.Learnt tt)
 gate-number-new-unique args r s exit exit′ p q = same p q

@@ -65,8 +65,8 @@ larger-of a b = max (a .0) (b .0)
 abbrev pub exceeds : Ticks → Ticks → Bool
 exceeds a b = ltb (b .0) (a .0)
 
--- What stands in a place of a row, or in an answer, for a quantity: 16 bits for a weight, a delay or D, 32 for M, 8 for a
--- fan-in count. Each holds every number up to its ceiling.
+-- What stands in a place of a row, or in an answer, for a quantity: 16 bits for a weight, a delay or D, 32 for M, a label
+-- or the output delay, 8 for a fan-in count. Each holds every number up to its ceiling.
 abbrev pub weight-place : Cells → ℕ
 weight-place a = held 16 (a .0)
 
@@ -75,6 +75,9 @@ capacity-place a = held 32 (a .0)
 
 abbrev pub delay-place : Ticks → ℕ
 delay-place a = held 16 (a .0)
+
+abbrev pub label-place : Ticks → ℕ
+label-place a = held 32 (a .0)
 
 abbrev pub count-place : FanInCount → ℕ
 count-place k = held 8 (k .0)

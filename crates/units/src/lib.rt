@@ -18,6 +18,7 @@ ghost use Rattle.units.specs.Units.{
   weight-place,
   capacity-place,
   delay-place,
+  label-place,
   count-place,
 };
 
@@ -154,6 +155,13 @@ impl Ticks {
         ensures { λ r. ⌜ r ≡ delay-place self ⌝ }
     {
         held_16(self.0)
+    }
+
+    // This time as a place of a row of labels, or the 32 bits of an output delay, hold it.
+    pub fn label_place(self) -> u32
+        ensures { λ r. ⌜ r ≡ label-place self ⌝ }
+    {
+        held_32(self.0)
     }
 }
 

@@ -6,10 +6,10 @@ use Rattle.cluster.proofs.print.Statement.{statement}
 use Rattle.cluster.proofs.print.Tie as tie
 
 abbrev Inv-loop : tie.InvT-loop
-Inv-loop prepared weights delays counts fanins labels marks index₀ index = index ≤ 1_026
+Inv-loop prepared row labels marks index₀ index = index ≤ 1_026
 
 abbrev μ-loop : tie.MeasureT-loop
-μ-loop prepared weights delays counts fanins labels marks index₀ index = 1_026 - index
+μ-loop prepared row labels marks index₀ index = 1_026 - index
 
 loop-holds : tie.Need-loop-holds Inv-loop μ-loop
 loop-holds c = omega arith

@@ -4,9 +4,6 @@ use borrow.Author.Needs.{needs}
 use Rattle.exports.specs.Exported.{number-of}
 use Rattle.exports.proofs.lykophene_label.Statement.{statement}
 use Rattle.exports.proofs.lykophene_label.Tie as tie
-use Rattle.exports.proofs.lykophene_label.Reads as reads
-use Rattle.exports.proofs.lykophene_label.Lts as lts
-use Rattle.labelling.proofs.label.Reads as label-reads
 
 label-requires : tie.Need-label-requires
 label-requires c κs = search needs
@@ -38,4 +35,11 @@ returns-2 c =
 pub lykophene-label-spec : {M : Type 1} → statement M
 lykophene-label-spec =
     tie.close
-    (tie.spec label-requires enum-told enum-known-answer same-length returns same-length-2 returns-2)
+    (tie.spec
+    label-requires
+    enum-told
+    enum-known-answer
+    same-length
+    returns
+    same-length-2
+    returns-2)

@@ -12,16 +12,8 @@ use Rattle.exports.proofs.lykophene_line.Statement.{statement}
 use Rattle.exports.proofs.lykophene_line.Tie as tie
 
 -- the rows as they are made
-ample : Ample (lent-of (replicate 512 0) (replicate 512 0) (replicate 512 0) (replicate 4_096 0) (replicate 512 0) (replicate 512 0))
-ample =
-    record {
-      weights = lit≤ tt;
-      delays = lit≤ tt;
-      counts = lit≤ tt;
-      fanins = lit≤ tt;
-      labels = lit≤ tt;
-      marks = lit≤ tt;
-    }
+ample : Ample (lent-of (replicate 5_632 0) (replicate 512 0) (replicate 512 0))
+ample = record { row = lit≤ tt; labels = lit≤ tt; marks = lit≤ tt }
 
 slice-aggregate-prepare : tie.Need-slice-aggregate-prepare
 slice-aggregate-prepare c = search needs
@@ -31,15 +23,6 @@ slice-aggregate-prepare-2 c = search needs
 
 slice-aggregate-prepare-3 : tie.Need-slice-aggregate-prepare-3
 slice-aggregate-prepare-3 c = search needs
-
-slice-aggregate-prepare-4 : tie.Need-slice-aggregate-prepare-4
-slice-aggregate-prepare-4 c = search needs
-
-slice-aggregate-prepare-5 : tie.Need-slice-aggregate-prepare-5
-slice-aggregate-prepare-5 c = search needs
-
-slice-aggregate-prepare-6 : tie.Need-slice-aggregate-prepare-6
-slice-aggregate-prepare-6 c = search needs
 
 prepare-requires : tie.Need-prepare-requires
 prepare-requires c κs = search needs
@@ -52,15 +35,6 @@ slice-aggregate-tell-2 c = search needs
 
 slice-aggregate-tell-3 : tie.Need-slice-aggregate-tell-3
 slice-aggregate-tell-3 c = search needs
-
-slice-aggregate-tell-4 : tie.Need-slice-aggregate-tell-4
-slice-aggregate-tell-4 c = search needs
-
-slice-aggregate-tell-5 : tie.Need-slice-aggregate-tell-5
-slice-aggregate-tell-5 c = search needs
-
-slice-aggregate-tell-6 : tie.Need-slice-aggregate-tell-6
-slice-aggregate-tell-6 c = search needs
 
 tell-requires : tie.Need-tell-requires
 tell-requires c κs = search needs
@@ -78,7 +52,8 @@ returns : tie.Need-returns
 unfolding length-of
 returns c =
     let t = c .before .before .before .before .before in
-    line-out _ _ _ _ _ _ _ _ _ ample (t .before .before .before .before .before .before .before .before .before .before .before .before .before .before .prepare .ensures) (t .tell .ensures) (ap length-of (c .before .written .given .1))
+    let p = t .before .before .before .before .before .before .before .before in
+    line-out ample (p .prepare .ensures) (t .tell .ensures) (ap length-of (c .before .written .given .1))
 
 same-length-2 : tie.Need-same-length-2
 same-length-2 c = search needs
@@ -87,7 +62,8 @@ returns-2 : tie.Need-returns-2
 unfolding length-of
 returns-2 c =
     let t = c .before .before .before .before in
-    line-out _ _ _ _ _ _ _ _ _ ample (t .before .before .before .before .before .before .before .before .before .before .before .before .before .before .prepare .ensures) (t .tell .ensures) (ap length-of (c .enum-told .given .1))
+    let p = t .before .before .before .before .before .before .before .before in
+    line-out ample (p .prepare .ensures) (t .tell .ensures) (ap length-of (c .enum-told .given .1))
 
 pub lykophene-line-spec : {M : Type 1} → statement M
 lykophene-line-spec =
@@ -96,16 +72,10 @@ lykophene-line-spec =
     slice-aggregate-prepare
     slice-aggregate-prepare-2
     slice-aggregate-prepare-3
-    slice-aggregate-prepare-4
-    slice-aggregate-prepare-5
-    slice-aggregate-prepare-6
     prepare-requires
     slice-aggregate-tell
     slice-aggregate-tell-2
     slice-aggregate-tell-3
-    slice-aggregate-tell-4
-    slice-aggregate-tell-5
-    slice-aggregate-tell-6
     tell-requires
     enum-known-written
     enum-told

@@ -5,7 +5,7 @@ use native.Mathlib.Omega.{arith}
 use borrow.Author.Needs.{needs}
 use borrow.Author.Tests.{eqb-true, eqb-false, not-true, not-false}
 use lib.ListN.{length, drop}
-use Rattle.frames.specs.Frames.{line-length}
+use Rattle.frames.specs.steps.Cut.{line-length}
 use Rattle.frames.proofs.Walks.{length-past, length-feed, length-more}
 use Rattle.frames.proofs.line_end.Statement.{statement}
 use Rattle.frames.proofs.line_end.Tie as tie

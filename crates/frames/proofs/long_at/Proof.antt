@@ -2,7 +2,7 @@
 use Prim.Native.Nat.{_+_}
 use native.Mathlib.Omega.{arith}
 use borrow.Author.Needs.{needs}
-use Rattle.frames.specs.Frames.{long-from}
+use Rattle.frames.specs.steps.Cut.{long-from}
 use Rattle.frames.proofs.Numbers.{word-most}
 use Rattle.frames.proofs.long_at.Statement.{statement}
 use Rattle.frames.proofs.long_at.Tie as tie

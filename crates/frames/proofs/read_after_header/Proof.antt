@@ -1,5 +1,6 @@
 -- `frames::read_after_header` meets its contract: a gate and an end answer for themselves, and anything else is row 3.
 use borrow.Author.Needs.{needs}
+use mathlib.Core.Path.{_∙_}
 use native.Mathlib.Omega.{arith}
 use Rattle.frames.specs.declared.Place.the-variants.{Opening}
 use Rattle.frames.proofs.Formed.{formed}
@@ -24,14 +25,18 @@ read-end-requires c κs = search needs
 returns-2 : tie.Need-returns-2
 returns-2 c = search needs
 
+refused-requires : tie.Need-refused-requires
+refused-requires c κs = search needs
+
 returns-3 : tie.Need-returns-3
 returns-3 c =
-    let s = c .before .before .before .before in
-    gates-3 (s .args .text .now) (s .args .at) (s .args .end) (s .args .gates) (s .args .line) (s .pre)
+    let s = c .before .before .before .before .before in
+    c .refused .ensures
+    ∙ gates-3 (s .args .text .now) (s .args .at) (s .args .end) (s .args .gates) (s .args .line) (s .pre)
     (omega arith)
     (omega arith)
 
 pub read-after-header-spec : {M : Type 1} → statement M
 read-after-header-spec =
     tie.close
-    (tie.spec byte-at-requires read-gate-requires returns read-end-requires returns-2 returns-3)
+    (tie.spec byte-at-requires read-gate-requires returns read-end-requires returns-2 refused-requires returns-3)

@@ -8,7 +8,8 @@ use borrow.Author.Tests.{not-true, not-false}
 use Rattle.frames.specs.declared.Place.{Place}
 use Rattle.frames.specs.declared.Place.the-variants.{Opening, Closed}
 use Rattle.frames.specs.Table.{malformed}
-use Rattle.frames.specs.Frames.{judged, line-read, line-from}
+use Rattle.frames.specs.Frames.{judged, line-read}
+use Rattle.frames.specs.steps.Cut.{line-from}
 use Rattle.frames.proofs.Formed.{any-place}
 use Rattle.frames.proofs.Rows.{judged-2, closed-3}
 use Rattle.frames.proofs.Lines.{end-most, read-first, read-past}
@@ -41,13 +42,17 @@ well-formed-requires c κs =
     let a = c .before .before .before .args in
     (omega arith, end-most (a .text .now) (a .at) (c .line-end .result) (search needs) (c .line-end .ensures))
 
+refused-requires : tie.Need-refused-requires
+refused-requires c κs = search needs
+
 returns-2 : tie.Need-returns-2
 returns-2 c =
-    let a = c .before .before .before .before .before .args in
-    let l = line-from (a .text .now) (a .at) (c .before .before .line-end .result) in
+    let a = c .before .before .before .before .before .before .args in
+    let l = line-from (a .text .now) (a .at) (c .before .before .before .line-end .result) in
     let two : malformed (a .place) l ≡ true =
-    any-place (a .place) Opening l ∙ not-false _ (sym (c .before .well-formed .ensures) ∙ not-true _ (c .if2 .taken)) in
-    sym (judged-2 (a .at) (a .place) (a .line) l two) ∙ found (c .before .before) (a .place) refl
+    any-place (a .place) Opening l ∙ not-false _ (sym (c .before .before .well-formed .ensures) ∙ not-true _ (c .before .if2 .taken)) in
+    c .refused .ensures
+    ∙ sym (judged-2 (a .at) (a .place) (a .line) l two) ∙ found (c .before .before .before) (a .place) refl
 
 enum-told : tie.Need-enum-told
 enum-told c = search needs
@@ -70,11 +75,15 @@ returns-3 c = c .read-header .ensures ∙ found (c .before .before .before .befo
 returns-4 : tie.Need-returns-4
 returns-4 c = c .read-after-header .ensures ∙ found (c .before .before .before .before .before .before) _ (c .before .before .place .given .1)
 
+refused-requires-2 : tie.Need-refused-requires-2
+refused-requires-2 c κs = search needs
+
 returns-5 : tie.Need-returns-5
 returns-5 c =
-    let a = c .before .before .before .before .before .before .before .args in
-    let l = line-from (a .text .now) (a .at) (c .before .before .before .before .line-end .result) in
-    sym (closed-3 (a .at) (a .line) l (any-place Closed Opening l ∙ well (c .before .before))) ∙ found (c .before .before .before .before) _ (c .enum-told2 .given .1)
+    let a = c .before .before .before .before .before .before .before .before .args in
+    let l = line-from (a .text .now) (a .at) (c .before .before .before .before .before .line-end .result) in
+    c .refused2 .ensures
+    ∙ sym (closed-3 (a .at) (a .line) l (any-place Closed Opening l ∙ well (c .before .before .before))) ∙ found (c .before .before .before .before .before) _ (c .before .enum-told2 .given .1)
 
 pub read-line-spec : {M : Type 1} → statement M
 read-line-spec =
@@ -83,12 +92,13 @@ read-line-spec =
     returns
     line-end-requires
     well-formed-requires
-    returns-2
+    refused-requires returns-2
     enum-told
     read-header-requires
     enum-known-place
     read-after-header-requires
     enum-told-2
+    refused-requires-2
     returns-3
     returns-4
     returns-5)

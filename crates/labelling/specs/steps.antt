@@ -1,0 +1,4 @@
+-- What the private functions of labelling answer along the way.
+pub mod Standing
+pub mod Growing
+pub mod Members

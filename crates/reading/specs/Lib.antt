@@ -1,0 +1,2 @@
+pub mod ReadInto
+pub mod steps

@@ -1,0 +1,2 @@
+-- What the private functions of the two passes over a text answer.
+pub mod Passes

@@ -1,0 +1,5 @@
+-- Document 01, "Frames": the lines of a result.
+pub mod Result
+pub mod Line
+pub mod Block
+pub mod steps

@@ -1,0 +1,3 @@
+-- What the functions of this crate, and of those above it, answer along the way.
+pub mod RowCheck
+pub mod Holds

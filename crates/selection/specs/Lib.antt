@@ -1,0 +1,2 @@
+pub mod Selection
+pub mod steps

@@ -1,0 +1,2 @@
+-- What selection finds in the rows, step by step.
+pub mod Marking

@@ -1,0 +1,78 @@
+-- What every text answers: a network, or one refusal.
+use Prim.Native.Nat.{ℕ, suc}
+use mathlib.Core.Bool.{cond}
+use mathlib.Core.List.{List, [], _∷_, _++_}
+use mathlib.Core.Option.{Option, none, some}
+use lib.ListN.{length}
+use lib.Dec.{ltb, eqb}
+use Rattle.model.specs.Network.{Gate, Network}
+use Rattle.frames.specs.Text.{Line, lines}
+use Rattle.frames.specs.declared.Place.{Place}
+use Rattle.frames.specs.declared.Place.the-variants.{Opening, AfterGates, Closed}
+use Rattle.frames.specs.declared.Refusal.{Refusal}
+use Rattle.frames.specs.Refusal.{at-line, at-no-line}
+use Rattle.frames.specs.Table.{kind, fault, next-place, header-capacity, header-hop, gate-of}
+
+-- "Text 24,576 bytes."
+abbrev pub most-text : ℕ
+most-text = 24_576
+
+-- "On every refusal the answer is number and line alone."
+pub data Reading : Type 0 where
+  refused : Refusal → Reading
+  network : Network → Reading
+
+-- before the first line
+unfoldable pub nothing-read : Network
+nothing-read = record { capacity = 0; hop = 0; gates = [] }
+
+unfoldable pub with-header : Network → Line → Network
+unfolding header-capacity header-hop
+with-header n l = record { capacity = header-capacity l; hop = header-hop l; gates = n .gates }
+
+unfoldable pub with-gate : Network → Line → Network
+unfolding gate-of
+with-gate n l = record { capacity = n .capacity; hop = n .hop; gates = n .gates ++ (gate-of l ∷ []) }
+
+-- what a line without fault adds to the network read so far
+unfoldable pub take-in : Network → Place → Line → Network
+unfolding with-header with-gate kind
+take-in n Opening l = with-header n l
+take-in n (AfterGates g) l = cond (eqb (kind l) 0x02) (with-gate n l) n
+take-in n Closed l = n
+
+-- "A missing 0F comes after all lines", told at "lines + 1".
+unfoldable pub at-the-end : Place → ℕ → Network → Reading
+at-the-end Opening at n = refused (at-line 3 at)
+at-the-end (AfterGates g) at n = refused (at-line 3 at)
+at-the-end Closed at n = network n
+
+-- a fault is told at its line; without one reading goes on
+unfoldable pub unless : Option ℕ → ℕ → Reading → Reading
+unless none at r = r
+unless (some k) at r = refused (at-line k at)
+
+-- "Lines count from 1." "the first faulty line decides, in it the lowest number"
+unfoldable pub walk : Place → ℕ → Network → List Line → Reading
+unfolding at-the-end unless fault next-place take-in
+walk p at n [] = at-the-end p at n
+walk p at n (l ∷ ls) = unless (fault p l) at (walk (next-place p l) (suc at) (take-in n p l) ls)
+
+-- 9: "a gate heavier than M; the lowest-numbered", told at "its line": gate 0 stands in line 2.
+unfoldable pub first-heavy : ℕ → ℕ → List Gate → Option ℕ
+first-heavy capacity at [] = none
+first-heavy capacity at (g ∷ gs) = cond (ltb capacity (g .weight)) (some at) (first-heavy capacity (suc at) gs)
+
+unfoldable pub told-heavy : Option ℕ → Network → Reading
+told-heavy none n = network n
+told-heavy (some at) n = refused (at-line 9 at)
+
+unfoldable pub weigh : Reading → Reading
+unfolding told-heavy first-heavy
+weigh (refused f) = refused f
+weigh (network n) = told-heavy (first-heavy (n .capacity) 2 (n .gates)) n
+
+-- "Order: 1 first. Then 2 to 8 .. Then 9": 1 is "text above 24,576 bytes", line 0.
+unfoldable pub reading : List ℕ → Reading
+unfolding weigh walk nothing-read lines
+reading text = cond (ltb most-text (length text)) (refused (at-no-line 1)) (weigh (walk Opening 1 nothing-read (lines text)))
