@@ -4,10 +4,10 @@ use Prim.Native.Nat.{ℕ, zero, suc, _+_, _*_, _/_, _-_, _≤_, _<_, min}
 use mathlib.Core.Path.{_≡_, refl, sym, _∙_}
 use mathlib.Core.Bool.{true, false}
 use mathlib.Core.List.{List, [], _∷_}
-use native.Mathlib.Decide.{decLt}
+use native.Mathlib.Decide.{ℕ-discrete, decLt}
 use native.Mathlib.Nat.{zero-add, suc-add, add-assoc}
 use native.Mathlib.Omega.{arith}
-use borrow.Author.Tests.{lt-ltb, le-ltb, le-leb, lt-leb, ne-eqb}
+use borrow.Author.Tests.{lt-ltb, le-ltb, le-leb, lt-leb, eq-eqb, ne-eqb}
 use lib.ListN.{length, getD, set, take, drop, replicate, length-take}
 use lib.Seq.{sets, take-nil, getD-take, getD-drop, take-take, drop-drop}
 use lib.Dec.{ltb, eqb}
@@ -18,7 +18,7 @@ use Rattle.units.specs.declared.Ticks.{Ticks}
 use Rattle.units.specs.declared.FanInCount.{FanInCount}
 use Rattle.units.specs.Units.{weight-place, delay-place, count-place}
 use Rattle.rows.specs.Row.{places, has-block, block, count-in, fanins-in, gate-put, fanin-put}
-use Rattle.rows.proofs.Blocks.{block-there}
+use Rattle.rows.proofs.Blocks.{block-there, length-fanins}
 
 -- the whole blocks of a row
 abbrev pub whole : List ℕ → ℕ
@@ -37,6 +37,14 @@ pub empty-length : (xs : List ℕ) → eqb (length xs) 0 ≡ empty xs
 unfolding empty
 empty-length [] = refl
 empty-length (x ∷ xs) = ne-eqb (length (x ∷ xs)) 0 (λ e. omega arith)
+
+-- of a number, held at eight or not, it is the same to be 0
+same-test : (k n : ℕ) → n ≡ min k most-fanins → eqb k 0 ≡ eqb n 0
+same-test k n e =
+    elim (ℕ-discrete k 0) [
+      | yes z ↦ eq-eqb k 0 z ∙ sym (eq-eqb n 0 (omega arith))
+      | no d ↦ ne-eqb k 0 d ∙ sym (ne-eqb n 0 (omega arith))
+    ]
 
 -- a part of a part, further on, is a part
 part-of : (m n k : ℕ) (l : List ℕ) → m ≤ k → take m (drop n (take (n + k) l)) ≡ take m (drop n l)
@@ -93,6 +101,17 @@ module _ (row : List ℕ) (v : ℕ) where
     pub fanins-at : (many : ℕ) → many ≡ min (count-in row v) most-fanins → take many (drop (places * v + 3) row) ≡ fanins-in row v
     unfolding fanins-in
     fanins-at many e = rw (← e, block-part, part-of many 3 most-fanins (drop (places * v) row) (omega arith), drop-drop)
+
+  -- a gate has no fan-ins where its count is 0, and where there is no block
+  pub input-counted : eqb (count-in row v) 0 ≡ empty (fanins-in row v)
+  input-counted =
+      elim (decLt v (whole row)) [
+        | yes h ↦
+            same-test (count-in row v) (length (fanins-in row v)) (length-fanins row v (omega arith)) ∙ empty-length (fanins-in row v)
+        | no h ↦
+            let none : whole row ≤ v = omega arith in
+            rw (← fanins-none none) (unfold count-in empty in rw (← place-none none 2))
+      ]
 
   pub few-fanins : length (fanins-in row v) ≤ most-fanins
   unfolding fanins-in

@@ -139,7 +139,7 @@ pub fn fan_ins(row: &[u16], v: usize) -> &[u16]
 pub fn is_input(row: &[u16], v: usize) -> bool
     ensures { λ r. ⌜ r ≡ empty (fanins-in (now (row .entry)) v) ⌝ }
 {
-    fan_ins(row, v).len() == 0
+    count(row, v) == 0
 }
 
 // The weight, the delay and the fan-in count of gate v put into its block, with 0 for every fan-in. A row without the block
