@@ -1,18 +1,20 @@
 // Growth of a cluster: the gates of the cone join by pull, up to the first one that would overfill it.
-use crate::Order;
-use crate::Row;
 use crate::order::in_order;
+use crate::own::Order;
+use crate::own::Row;
 use rows::Header;
+use units::Ticks;
 ghost use mathlib.Core.Path.{_≡_};
 ghost use mathlib.Core.List.{head?};
 ghost use Prim.Native.Nat.{_≤_, _<_};
 ghost use lib.ListN.{length, take, drop};
+ghost use Rattle.model.specs.Ceilings.{most-gates};
 ghost use Rattle.model.specs.Network.{weight};
 ghost use Rattle.model.specs.Label.{grow};
 ghost use Rattle.rows.specs.Row.{network-in};
 ghost use Rattle.rows.specs.steps.Holds.{Holds};
 ghost use Rattle.labelling.specs.steps.Standing.{Whole, Below};
-ghost use Rattle.labelling.specs.steps.Growing.{stop-of, GrowsBelow, Grew};
+ghost use Rattle.labelling.specs.steps.Growing.{stop-of, or-input, input-pulls, GrowsBelow, Grew};
 
 // The gate that stopped growth, if one did.
 pub(crate) enum Stop {
@@ -20,21 +22,37 @@ pub(crate) enum Stop {
     Nothing,
 }
 
-// What growth comes to: how many gates of the ordered row joined, and what stopped it.
+// What growth comes to: how many gates of the ordered row joined, what stopped it, and "the largest pull of a primary input
+// inside (0 if none)".
 pub(crate) struct Grown {
     pub(crate) joined: usize,
     pub(crate) stop: Stop,
+    pub(crate) inputs: Ticks,
+}
+
+// The larger of a time and the pull of u, if u is a primary input.
+fn or_input(row: &[u16], pulls: &Row, time: Ticks, u: usize) -> Ticks
+    requires { ⌜ u < most-gates ⌝ }
+    ensures { λ r. ⌜ r .0 ≡ or-input (now (row .entry)) (now (pulls .entry)) (time .0) u ⌝ }
+{
+    if rows::is_input(row, u) {
+        time.larger(Ticks(pulls[u]))
+    } else {
+        time
+    }
 }
 
 // "The cluster starts as v. Gates join in that order, and growth stops at the first gate that would overfill it."
-fn walk(header: Header, row: &[u16], v: usize, ordered: &Order, count: usize) -> Grown
+fn walk(header: Header, row: &[u16], v: usize, pulls: &Row, ordered: &Order, count: usize) -> Grown
     requires { ⌜ Holds header (now row) × (v < header .gates) ⌝ }
     requires { ⌜ Whole (now ordered) × (count ≤ v) × Below v (take count (now ordered)) ⌝ }
     ensures { λ r. ⌜ (r .joined ≤ count) × (stop-of (r .stop) ≡ head? (drop (r .joined) (take count (now (ordered .entry))))) ⌝ }
     ensures { λ r. ⌜ grow (network-in header (now (row .entry))) (weight (network-in header (now (row .entry))) v) (take count (now (ordered .entry)))
         ≡ record { joined = take (r .joined) (take count (now (ordered .entry))); stop = stop-of (r .stop) } ⌝ }
+    ensures { λ r. ⌜ r .inputs .0 ≡ input-pulls (now (row .entry)) (now (pulls .entry)) (take (r .joined) (take count (now (ordered .entry)))) ⌝ }
 {
     let mut sum = rows::weight(row, v);
+    let mut inputs = Ticks(0);
     let mut joined = 0;
     let stop = 'grow: loop {
         while joined < count {
@@ -43,11 +61,16 @@ fn walk(header: Header, row: &[u16], v: usize, ordered: &Order, count: usize) ->
             if !sum.within(header.capacity) {
                 break 'grow Stop::At(u);
             }
+            inputs = or_input(row, pulls, inputs, u);
             joined += 1;
         }
         break 'grow Stop::Nothing;
     };
-    Grown { joined, stop }
+    Grown {
+        joined,
+        stop,
+        inputs,
+    }
 }
 
 // The growth of the cluster of v, from the labels of the gates below it.
@@ -66,5 +89,5 @@ pub(crate) fn grow(
     ensures { λ r. ⌜ Grew (network-in header (now (row .entry))) (now (labels .entry)) v (now (pulls .exit)) (now (ordered .exit)) r ⌝ }
 {
     let count = in_order(header, row, labels, v, onward, pulls, ordered);
-    walk(header, row, v, ordered, count)
+    walk(header, row, v, pulls, ordered, count)
 }

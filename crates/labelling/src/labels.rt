@@ -1,8 +1,8 @@
 // Labels: of one gate from the labels below it, and of all gates.
-use crate::Order;
-use crate::Row;
 use crate::growth::Stop;
 use crate::growth::grow;
+use crate::own::Order;
+use crate::own::Row;
 use rows::Header;
 use units::GateNumber;
 use units::Ticks;
@@ -10,38 +10,14 @@ ghost use mathlib.Core.Path.{_≡_};
 ghost use mathlib.Core.List.{_++_};
 ghost use mathlib.Core.Option.{some};
 ghost use Prim.Native.Nat.{ℕ, _≤_, _<_};
-ghost use lib.ListN.{length, take, drop};
+ghost use lib.ListN.{length, drop};
 ghost use Rattle.model.specs.Ceilings.{most-gates};
 ghost use Rattle.model.specs.Label.{label-from, labels as labels-of};
 ghost use Rattle.units.specs.Units.{held-sum};
 ghost use Rattle.rows.specs.Row.{network-in};
 ghost use Rattle.rows.specs.steps.Holds.{Holds};
-ghost use Rattle.labelling.specs.steps.Standing.{Whole, Below, pull-in};
-ghost use Rattle.labelling.specs.steps.Growing.{stop-of, or-input, input-pulls, stop-pull};
-
-// The larger of a time and the pull of u, if u is a primary input.
-fn or_input(row: &[u16], pulls: &Row, time: Ticks, u: usize) -> Ticks
-    requires { ⌜ u < most-gates ⌝ }
-    ensures { λ r. ⌜ r .0 ≡ or-input (now (row .entry)) (now (pulls .entry)) (time .0) u ⌝ }
-{
-    if rows::is_input(row, u) {
-        time.larger(Ticks(pulls[u]))
-    } else {
-        time
-    }
-}
-
-// "the largest pull of a primary input inside (0 if none)"
-fn input_pulls(row: &[u16], pulls: &Row, ordered: &Order, joined: usize) -> Ticks
-    requires { ⌜ Whole (now ordered) × (joined ≤ most-gates) × Below most-gates (take joined (now ordered)) ⌝ }
-    ensures { λ r. ⌜ r .0 ≡ input-pulls (now (row .entry)) (now (pulls .entry)) (take joined (now (ordered .entry))) ⌝ }
-{
-    let mut largest = Ticks(0);
-    for i in 0..joined {
-        largest = or_input(row, pulls, largest, ordered[i]);
-    }
-    largest
-}
+ghost use Rattle.labelling.specs.steps.Standing.{Whole, pull-in};
+ghost use Rattle.labelling.specs.steps.Growing.{stop-of, stop-pull};
 
 // The pull of a gate that stays outside, plus D: whatever gate it is, "its crossing edges cost a hop".
 fn outside_pull(hop: Ticks, pulls: &Row, u: usize) -> Ticks
@@ -82,9 +58,9 @@ fn label_one(
     }
     let grown = grow(header, row, labels, v, onward, pulls, ordered);
     let hop = header.hop;
-    let joined = grown.joined;
     let stop = grown.stop;
-    input_pulls(row, pulls, ordered, joined).larger(stop_pull(hop, pulls, stop))
+    let inputs = grown.inputs;
+    inputs.larger(stop_pull(hop, pulls, stop))
 }
 
 // The label of every gate, in the order of the gates.

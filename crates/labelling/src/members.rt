@@ -1,7 +1,7 @@
 // The members of one root's cluster, from a row of labels: the same growth as for its label.
-use crate::Marks;
-use crate::Order;
 use crate::growth::grow;
+use crate::own::Marks;
+use crate::own::Order;
 use rows::Header;
 use units::GateNumber;
 ghost use mathlib.Core.Path.{_≡_};

@@ -1,7 +1,7 @@
 // Onward delays to one gate, in a row with an entry for each gate: 0 where no path is known, otherwise one tick more than
 // the largest sum of delays on a path. From the gate downward each gate passes its entry on to its fan-ins, so that an
 // entry is final when its gate is reached.
-use crate::Row;
+use crate::own::Row;
 use rows::Header;
 use units::Ticks;
 ghost use mathlib.Core.Path.{_≡_};

@@ -1,7 +1,6 @@
 -- What a text, or a network in its row, answers, and what reading a text leaves in the row: "On every refusal the answer is
 -- number and line alone, and no lent row has changed."
 use Prim.Native.Nat.{ℕ}
-use mathlib.Core.Path.{_≡_}
 use mathlib.Core.Bool.{cond}
 use mathlib.Core.List.{List}
 use Rattle.model.specs.Network.{size}

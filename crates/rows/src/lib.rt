@@ -16,7 +16,7 @@ use units::Numbered;
 use units::Ticks;
 ghost use mathlib.Core.Path.{_≡_};
 ghost use mathlib.Core.Bool.{_&&_};
-ghost use Prim.Native.Nat.{_+_, _^_, _≤_, _<_};
+ghost use Prim.Native.Nat.{_+_, _^_, _<_};
 ghost use lib.ListN.{getD};
 ghost use lib.Dec.{leb, ltb};
 ghost use Rattle.model.specs.Network.{empty};
