@@ -41,9 +41,10 @@ fn visit(onward: &mut Row, header: Header, row: &[u16], y: usize)
     ensures { λ _. ⌜ now (onward .exit) ≡ visit (network-in header (now (row .entry))) (now (onward .entry)) y ⌝ }
 {
     let here = onward[y];
+    let delay = rows::delay(row, y);
+    let fanins = rows::fan_ins(row, y);
     if here != 0 {
-        let entry = Ticks(here).plus(rows::delay(row, y));
-        raise(onward, entry, rows::fan_ins(row, y));
+        raise(onward, Ticks(here).plus(delay), fanins);
     }
 }
 
