@@ -1,5 +1,5 @@
-//! A second reading of document 01, to hold the proved program against. It shares nothing with the
-//! proved crates but the document.
+//! A second reading of `docs/RULES.md`, to hold the proved program against. It shares nothing with the
+//! proved crates but the rules.
 //!
 //! * `rules` reads and writes texts and knows the refusal table.
 //! * `best` finds the best delay of each gate by trying every cluster.

@@ -1,4 +1,4 @@
-//! `second COMMAND OPTIONS BACKEND`: holds an implementation of document 01 against this one.
+//! `second COMMAND OPTIONS BACKEND`: holds an implementation of the rules against this one.
 //!
 //! Commands: `table`, `exhaustive [--part I/K]`, `random --count N --seed S [--large L]`,
 //! `damaged --count N --seed S`. Backends: `--program PATH`, `--staticlib`, `--self`. The last line says

@@ -1,4 +1,4 @@
-//! The rules as document 01 states them, in plain code: pulls, order, growth, selection, frames.
+//! The rules of `docs/RULES.md` as they are written there, in plain code: pulls, order, growth, selection, frames.
 
 use crate::hex;
 use crate::rules::{self, Network};

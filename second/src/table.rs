@@ -1,4 +1,4 @@
-//! The table of document 01, P1 to P13, and the cases marked there as run only.
+//! The worked rows P1 to P13 of `docs/RULES.md`, and texts at the ceilings, which are only run.
 
 use crate::backends::Answers;
 use crate::judge::judge;

@@ -1,4 +1,4 @@
-//! The comparisons find worthless builds out: document 01's four, and an answer with any byte changed.
+//! The comparisons find worthless builds out: the four of rule T5, and an answer with any byte changed.
 
 use second::backends::{Answers, Plain};
 use second::judge::judge;

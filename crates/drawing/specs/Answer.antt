@@ -1,4 +1,4 @@
--- Document 01, "Frames": what every text answers.
+-- What every text answers, line by line.
 use Prim.Native.Nat.{ℕ}
 use mathlib.Core.List.{List, [], _∷_}
 use Rattle.model.specs.Network.{Network}
@@ -13,7 +13,7 @@ unfoldable pub network-result : Network → List (List ℕ)
 unfolding result-lines labels drawn
 network-result n = result-lines n (labels n) (drawn n (labels n))
 
--- What every text answers: "result frames, or one 1E frame, line by line".
+-- [F13] the frames of its result, or one 1E
 unfoldable pub lines-told : Reading → List (List ℕ)
 unfolding spell-line refusal-bytes network-result
 lines-told (refused f) = spell-line (refusal-bytes f) ∷ []

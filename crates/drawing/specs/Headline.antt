@@ -20,7 +20,7 @@ use Rattle.drawing.specs.Answer.{answer-lines}
 use Rattle.drawing.specs.Demands.{most-line}
 use Rattle.drawing.specs.Prepared.{Lent, PreparedInto, Told, ToldLines}
 
--- Rows with room for the largest network: 5,632 places for the gates, and 512 each for labels and marks.
+-- [B9] Rows with room for the largest network: 5,632 places for the gates, and 512 each for labels and marks.
 pub record Ample (l : Lent) : Type 0 where
   pub row : places * most-gates ≤ length (l .row)
   pub labels : most-gates ≤ length (l .labels)
@@ -32,7 +32,7 @@ pub record Answers (text : List ℕ) (p : Read) (l : Lent) : Type 0 where
   pub line :
       (index : ℕ) (out : List ℕ) (r : Written) (row : List ℕ) → Told p index l out r row
       → LineWritten (line-at index (answer-lines text)) out r row
-  -- "the longest result line is 2,059 bytes": this much always suffices
+  -- [B7] room for the longest line always suffices
   pub room :
       (index : ℕ) (out : List ℕ) (r : Written) (row : List ℕ) → Told p index l out r row → most-line ≤ length out
       → (r ≡ Line (length (line-at index (answer-lines text))))
@@ -46,7 +46,7 @@ pub record Answers (text : List ℕ) (p : Read) (l : Lent) : Type 0 where
       (index : ℕ) (out : List ℕ) (r : Block) (row : List ℕ) → ToldLines p index l out r row → most-line ≤ length out
       → let run = fitting (length out) (drop index (answer-lines text)) in
       (r ≡ Lines (length run) (length (join run))) × (row ≡ in-front (join run) out) × (index < length (answer-lines text) → 0 < length run)
-  -- "which suffice for every text, so that it never answers 10"
+  -- [B9] such rows suffice for every text
   pub never-10 : (f : Refusal) → p ≡ Refused f → f .number ≡ 10 → ⊥
 
 abbrev pub Headline : Type 0

@@ -30,11 +30,11 @@ pub record Lent : Type 0 where
 abbrev pub lent-of : List ℕ → List ℕ → List ℕ → Lent
 lent-of row labels marks = record { row = row; labels = labels; marks = marks }
 
--- "only a row shorter than its formula answers 10"
+-- [R3] is a row shorter than its formula
 unfoldable pub any-short : ℕ → Lent → Bool
 any-short gates l = too-short gates (l .row) || either-short gates (l .labels) (l .marks)
 
--- "Then 9, then 10": a network for which a row is too short answers 10, line 0.
+-- [O5] a network for which a row is too short answers 10, line 0
 unfoldable pub prepared-answer : Reading → Lent → Read
 prepared-answer (refused f) l = read.Refused f
 prepared-answer (network n) l = cond (any-short (size n) l) (read.Refused no-room) (read.Network (header-of n))
@@ -48,7 +48,7 @@ prepared-rows n l =
       marks = marks-of n (labels-of n) ++ drop (size n) (l .marks);
     }
 
--- "On every refusal .. no lent row has changed."
+-- [R4] on a refusal the rows as they were
 unfoldable pub prepared-lent : Reading → Lent → Lent
 prepared-lent (refused f) l = l
 prepared-lent (network n) l = cond (any-short (size n) l) l (prepared-rows n l)
@@ -57,7 +57,7 @@ pub record PreparedInto (text : List ℕ) (before : Lent) (r : Read) (after : Le
   pub answer : r ≡ prepared-answer (reading text) before
   pub lent : after ≡ prepared-lent (reading text) before
 
--- One line of what was prepared: "result frames, or one 1E frame".
+-- [F13] one line of what was prepared: of a result, or of a refusal
 unfoldable pub tell-answer : Read → ℕ → Lent → List ℕ → Written
 tell-answer (read.Refused f) index l out = line-answer (line-at index (refusal-lines f)) out
 tell-answer (read.Network h) index l out =

@@ -1,4 +1,4 @@
--- Document 01, "Frames", the other way round: bytes, and numbers as bytes, written as digits.
+-- Bytes, and numbers as bytes, written as digits.
 use Prim.Native.Nat.{ℕ, _+_, _/_, _%_}
 use mathlib.Core.Bool.{cond}
 use mathlib.Core.List.{List, [], _∷_, _++_}
@@ -6,7 +6,7 @@ use lib.Dec.{ltb}
 use Rattle.model.specs.Basics.{gather}
 use Rattle.frames.specs.Text.{line-feed}
 
--- "Numbers are big-endian."
+-- [F2] the bytes of a number, highest first
 unfoldable pub word-bytes : ℕ → List ℕ
 word-bytes w = w / 256 % 256 ∷ w % 256 ∷ []
 
@@ -14,7 +14,7 @@ unfoldable pub long-bytes : ℕ → List ℕ
 unfolding word-bytes
 long-bytes w = word-bytes (w / 65_536) ++ word-bytes (w % 65_536)
 
--- "digits 0-9 and A-F"
+-- [F1] the digit that stands for a number below 16
 unfoldable pub figure : ℕ → ℕ
 figure d = cond (ltb d 10) (48 + d) (55 + d)
 

@@ -1,4 +1,4 @@
--- Document 01, "Refusal numbers", as a relation: the number that a table gives for a line where it stands, if it gives one.
+-- The refusals of one line as a relation: the number that a table gives for a line where it stands, if it gives one.
 use Prim.Native.Nat.{ℕ, _<_}
 use mathlib.Core.Path.{_≡_}
 use mathlib.Core.Bool.{true, false}
@@ -7,7 +7,7 @@ use Rattle.frames.specs.declared.Place.{Place}
 use Rattle.frames.specs.Text.{Line}
 use Rattle.frames.specs.Table.{Row, table}
 
--- "Given exactly when" the row of the number holds, and no row that stands before it in the table.
+-- [O3] The row of the number holds, and no row that stands before it in the table.
 pub record GivenBy (rows : List Row) (k : ℕ) (p : Place) (l : Line) : Type 0 where
   pub before : List Row
   pub row : Row
@@ -21,8 +21,7 @@ pub record GivenBy (rows : List Row) (k : ℕ) (p : Place) (l : Line) : Type 0 w
 pub record FaultlessBy (rows : List Row) (p : Place) (l : Line) : Type 0 where
   pub clear : (r : Row) → List·Memᴰ r rows → r .given p l ≡ false
 
--- "in it the lowest number": each number of the rows is below all numbers behind it, so that the first row that holds is
--- the one of the lowest number.
+-- [O3] Each number of the rows is below all numbers behind it, so that the first row that holds is the one of the lowest number.
 pub record Rises (rows : List Row) : Type 0 where
   pub below : (before : List Row) (row : Row) (after : List Row) → rows ≡ before ++ (row ∷ after)
       → (r : Row) → List·Memᴰ r after → row .number < r .number
@@ -31,7 +30,7 @@ pub record Rises (rows : List Row) : Type 0 where
 pub record LowestBy (rows : List Row) (k : ℕ) (p : Place) (l : Line) : Type 0 where
   pub clear : (r : Row) → List·Memᴰ r rows → r .number < k → r .given p l ≡ false
 
--- the same of the table of document 01
+-- the same of the table of refusals
 abbrev pub Given : ℕ → Place → Line → Type 0
 Given k p l = GivenBy table k p l
 

@@ -1,4 +1,4 @@
--- What reading one line answers: document 01's "Each line read gives either a frame or a refusal number with its line."
+-- What reading one line answers: a frame, or a refusal at that line.
 use Prim.Native.Nat.{ℕ, _+_, _*_}
 use mathlib.Core.Bool.{cond}
 use mathlib.Core.List.{List, [], _∷_}
@@ -56,7 +56,7 @@ unfoldable pub word-from : List ℕ → ℕ → ℕ
 unfolding byte-from
 word-from text k = 256 * byte-from text k + byte-from text (k + 2)
 
--- "02 gate: weight (2), delay (2), fan-in count (1), each fan-in (2)": two digits a byte, the type first.
+-- [F4] The i-th fan-in of a gate that begins there: six bytes stand before the first, each two digits.
 unfoldable pub fan-in-from : List ℕ → ℕ → ℕ → ℕ
 unfolding word-from
 fan-in-from text at i = word-from text (at + 12 + 4 * i)

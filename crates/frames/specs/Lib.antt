@@ -1,4 +1,4 @@
--- Document 01, "Frames" and "Refusal numbers", as far as they speak of one line; `steps` is for the code alone.
+-- Frames and refusals, as far as the rules speak of one line; `steps` is for the code alone.
 pub mod Refusal
 pub mod Text
 pub mod Table

@@ -28,11 +28,11 @@ pub record Fed (at : ℕ) (out : List ℕ) (r : Written) (row : List ℕ) : Type
   pub answer : r ≡ cond (ltb at (length out)) (Line (at + 1)) (Refused no-room)
   pub kept : row ≡ cond (ltb at (length out)) (set out at line-feed) out
 
--- "A writer .. given less room than what it was asked for answers 10", told at line 0.
+-- [R6] the line's length, or 10 where the row is shorter
 unfoldable pub line-answer : List ℕ → List ℕ → Written
 line-answer line out = cond (ltb (length out) (length line)) (Refused no-room) (Line (length line))
 
--- The row afterwards: the line in front, the rest as it was; on a refusal all of it as it was.
+-- [R6] [R4] The row afterwards: the line in front, the rest as it was; on a refusal all of it as it was.
 unfoldable pub line-row : List ℕ → List ℕ → List ℕ
 line-row line out = cond (ltb (length out) (length line)) out (line ++ drop (length line) out)
 
@@ -40,6 +40,6 @@ pub record LineWritten (line : List ℕ) (out : List ℕ) (r : Written) (row : L
   pub answer : r ≡ line-answer line out
   pub kept : row ≡ line-row line out
 
--- "a writer that writes the k-th line", counted from 0; "a line past the last has length 0"
+-- [R6] the line of an index, counted from 0; past the last there is an empty one
 unfoldable pub line-at : ℕ → List (List ℕ) → List ℕ
 line-at index lines = getD lines index []

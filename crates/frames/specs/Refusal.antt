@@ -1,15 +1,15 @@
--- Document 01: "a refusal number with its line".
+-- A refusal as a value.
 use Prim.Native.Nat.{ℕ}
 use Rattle.frames.specs.declared.Refusal.{Refusal}
 
--- "On every refusal the answer is number and line alone."
+-- [O1] number and line, and nothing else
 abbrev pub at-line : ℕ → ℕ → Refusal
 at-line number line = record { number = number; line = line }
 
--- "line 0": no line of the text is at fault
+-- [O1] told at line 0: no line of the text is at fault
 abbrev pub at-no-line : ℕ → Refusal
 at-no-line number = at-line number 0
 
--- "10 lent row too short for this network, line 0"
+-- [N10] a lent row is too short
 abbrev pub no-room : Refusal
 no-room = at-no-line 10

@@ -1,5 +1,4 @@
--- Document 01, "Refusal numbers": the rows of the table that speak of one line, each a test of a line where it stands,
--- and the rule that picks among them.
+-- The table of refusals: the rows that speak of one line, each a test of a line where it stands, and what picks among them.
 use Prim.Native.Nat.{ℕ, suc, _+_, _*_}
 use mathlib.Core.Bool.{Bool, true, false, cond, not, _&&_, _||_}
 use mathlib.Core.List.{List, [], _∷_}
@@ -12,9 +11,9 @@ use Rattle.frames.specs.declared.Place.{Place}
 use Rattle.frames.specs.declared.Place.the-variants.{Opening, AfterGates, Closed}
 use Rattle.frames.specs.Text.{Line, all-digits, even, bytes, word-at, long-at, words}
 
--- What stood before a line is a `Place`: "A network is one 01, its 02 frames, one 0F."
+-- What stood before a line is a `Place`: nothing, the header and so many gates, or the end.
 
--- "Bytes after the type", the type first.
+-- the type of a frame is its first byte
 unfoldable pub kind : Line → ℕ
 unfolding bytes
 kind l = getD (bytes (l .digits)) 0 0
@@ -23,7 +22,7 @@ unfoldable pub frame-length : Line → ℕ
 unfolding bytes
 frame-length l = length (bytes (l .digits))
 
--- "01 header: M (4), D (2)"
+-- [F3] M is bytes 1 to 4, D bytes 5 and 6
 unfoldable pub header-capacity : Line → ℕ
 unfolding bytes long-at
 header-capacity l = long-at (bytes (l .digits)) 1
@@ -32,7 +31,7 @@ unfoldable pub header-hop : Line → ℕ
 unfolding bytes word-at
 header-hop l = word-at (bytes (l .digits)) 5
 
--- "02 gate: weight (2), delay (2), fan-in count (1), each fan-in (2)"
+-- [F4] the fan-in count is byte 5, and the fan-ins are what follows
 unfoldable pub gate-count : Line → ℕ
 unfolding bytes
 gate-count l = getD (bytes (l .digits)) 5 0
@@ -41,6 +40,7 @@ unfoldable pub gate-fanins : Line → List ℕ
 unfolding bytes words
 gate-fanins l = words (drop 6 (bytes (l .digits)))
 
+-- [F4] weight in bytes 1 and 2, delay in bytes 3 and 4
 unfoldable pub gate-of : Line → Gate
 unfolding bytes word-at gate-fanins
 gate-of l =
@@ -50,28 +50,28 @@ gate-of l =
       fanins = gate-fanins l;
     }
 
--- "0F end: number of gates (2)"
+-- [F5] how many gates the end counts
 unfoldable pub end-count : Line → ℕ
 unfolding bytes word-at
 end-count l = word-at (bytes (l .digits)) 1
 
--- 2: "empty line, bad digit, odd digit count, or last line not ended"
 unfoldable pub none-there : List ℕ → Bool
 none-there [] = true
 none-there (x ∷ xs) = false
 
+-- [N2] no digits, a byte that is none, an odd number of them, or no line feed behind them
 unfoldable pub malformed : Place → Line → Bool
 unfolding none-there all-digits even
 malformed p l = none-there (l .digits) || not (all-digits (l .digits)) || not (even (l .digits)) || not (l .ended)
 
--- 3: "unknown or misplaced type"
+-- [N3] [F11] another type than the place allows
 unfoldable pub misplaced : Place → Line → Bool
 unfolding kind
 misplaced Opening l = not (eqb (kind l) 0x01)
 misplaced (AfterGates g) l = not (eqb (kind l) 0x02 || eqb (kind l) 0x0F)
 misplaced Closed l = true
 
--- 4: "frame length wrong for its type or count, or count above 8"
+-- [N4] [B2] too long or too short for its type and count, or a count above the ceiling
 unfoldable pub wrong-length : Place → Line → Bool
 unfolding kind frame-length gate-count
 wrong-length p l =
@@ -80,32 +80,33 @@ wrong-length p l =
     (ltb most-fanins (gate-count l) || not (eqb (frame-length l) (6 + 2 * gate-count l)))
     (not (eqb (frame-length l) 3)))
 
--- 5: "a 513th gate"
+-- [N5] [B1] a gate behind 512
 unfoldable pub one-too-many : Place → Line → Bool
 unfolding kind
 one-too-many Opening l = false
 one-too-many (AfterGates g) l = eqb (kind l) 0x02 && leb most-gates g
 one-too-many Closed l = false
 
--- 6: "fan-in not rising or not below its gate"
+-- the numbers rise strictly, from the least that is allowed and below a bound
 unfoldable pub rising-from : ℕ → ℕ → List ℕ → Bool
 rising-from least bound [] = true
 rising-from least bound (x ∷ xs) = leb least x && ltb x bound && rising-from (suc x) bound xs
 
+-- [N6] fan-ins that do not rise, or one not below the gate's own number, which is how many gates stand before it
 unfoldable pub unordered : Place → Line → Bool
 unfolding kind rising-from gate-fanins
 unordered Opening l = false
 unordered (AfterGates g) l = eqb (kind l) 0x02 && not (rising-from 0 g (gate-fanins l))
 unordered Closed l = false
 
--- 7: "0F count differs"
+-- [N7] another count than there are gates
 unfoldable pub miscounted : Place → Line → Bool
 unfolding kind end-count
 miscounted Opening l = false
 miscounted (AfterGates g) l = eqb (kind l) 0x0F && not (eqb (end-count l) g)
 miscounted Closed l = false
 
--- 8: "0F with no gates before it"
+-- [N8] an end behind the header
 unfoldable pub no-gates : Place → Line → Bool
 unfolding kind
 no-gates Opening l = false
@@ -116,7 +117,7 @@ pub record Row : Type 0 where
   pub number : ℕ
   pub given : Place → Line → Bool
 
--- The table: a row a number, in the order in which they are given.
+-- [O3] The table: a row a number, in the order in which they are given.
 unfoldable pub table : List Row
 unfolding malformed misplaced wrong-length one-too-many unordered miscounted no-gates
 table =
@@ -129,8 +130,8 @@ table =
     ∷ record { number = 8; given = no-gates }
     ∷ []
 
--- "the first faulty line decides, in it the lowest number": the number of a line, if it is faulty where it stands. The
--- table's rows rise, so the lowest number is that of the first row that holds.
+-- [O3] The number of a line, if it is faulty where it stands: that of the first row that holds, which is the lowest, since the
+-- table's rows rise.
 unfoldable pub first-given : List Row → Place → Line → Option ℕ
 first-given [] p l = none
 first-given (r ∷ rs) p l = cond (r .given p l) (some (r .number)) (first-given rs p l)
@@ -139,7 +140,7 @@ unfoldable pub fault : Place → Line → Option ℕ
 unfolding first-given table
 fault p l = first-given table p l
 
--- where the next line stands, after a line without fault
+-- [F11] where the next line stands, after a line without fault
 unfoldable pub next-place : Place → Line → Place
 unfolding kind
 next-place Opening l = AfterGates 0

@@ -1,4 +1,4 @@
--- Document 01, "Frames": text, lines, digits, numbers.
+-- Text, lines, digits, numbers.
 use Prim.Native.Nat.{ℕ, _+_, _*_, _-_}
 use mathlib.Core.Bool.{Bool, true, false, cond, _&&_}
 use mathlib.Core.List.{List, [], _∷_}
@@ -9,8 +9,7 @@ use lib.Dec.{leb, ltb, eqb}
 abbrev pub line-feed : ℕ
 line-feed = 10
 
--- "Text is lines of hexadecimal .., one frame a line, each ended by a line feed (0A) and nothing else." What follows the
--- last line feed, if anything does, is a line that is not ended.
+-- [F1] A line: what stands before its line feed. What follows the last line feed, if anything does, is a line that is not ended.
 pub record Line : Type 0 where
   pub digits : List ℕ
   pub ended : Bool
@@ -25,7 +24,7 @@ unfolding begin
 lines [] = []
 lines (b ∷ bs) = cond (eqb b line-feed) (record { digits = []; ended = true } ∷ lines bs) (begin b (lines bs))
 
--- "digits 0-9 and A-F": what a byte counts for as a digit, 16 if it is none.
+-- [F1] what a byte counts for as a digit, 16 if it is none
 unfoldable pub digit : ℕ → ℕ
 digit b = cond (leb 48 b && leb b 57) (b - 48) (cond (leb 65 b && leb b 70) (b - 55) 16)
 
@@ -34,7 +33,7 @@ unfolding digit
 all-digits [] = true
 all-digits (b ∷ bs) = ltb (digit b) 16 && all-digits bs
 
--- "an even number"
+-- [F1] two digits a byte
 unfoldable pub even : List ℕ → Bool
 even [] = true
 even (a ∷ []) = false
@@ -47,7 +46,7 @@ bytes [] = []
 bytes (a ∷ []) = []
 bytes (a ∷ b ∷ ds) = (16 * digit a + digit b) ∷ bytes ds
 
--- "Numbers are big-endian."
+-- [F2] the number of two bytes, and of four, highest first
 unfoldable pub word-at : List ℕ → ℕ → ℕ
 word-at bs i = 256 * getD bs i 0 + getD bs (i + 1) 0
 

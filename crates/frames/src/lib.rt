@@ -35,7 +35,7 @@ pub enum Place {
     Closed,
 }
 
-// A refusal: document 01's number and line.
+// A refusal [O1]: which it is, and where.
 pub struct Refusal {
     pub number: u8,
     pub line: usize,
@@ -67,7 +67,7 @@ pub enum Written {
     Refused(Refusal),
 }
 
-// "Text 24,576 bytes."
+// The bytes that a text may have [B5].
 pub const MOST_TEXT: usize = 24_576;
 
 // The refusal numbers. A text above its ceiling:

@@ -21,13 +21,13 @@ use Rattle.labelling.specs.declared.Clustered.the-variants as Clustered
 abbrev pub written : List ℕ → List ℕ → List ℕ
 written xs row = xs ++ drop (length xs) row
 
--- Labels are written into a row with one place a gate. "Then 9, then 10": a refusal of the text that the row spells is handed
--- on, and a lent row too short for the network answers 10.
+-- [R2] [O5] Labels need one place a gate: a refusal of the text that the row spells is handed on, and a lent row too short for the
+-- network answers 10 behind it.
 unfoldable pub label-answer : Reading → List ℕ → Labelled
 label-answer (refused f) labels = Labelled.Refused f
 label-answer (network n) labels = cond (ltb (length labels) (size n)) (Labelled.Refused no-room) Labelled.Done
 
--- The labels of the network at the front of the lent row, the rest kept. "On every refusal .. no lent row has changed."
+-- [R3] [R4] The labels of the network at the front of the lent row, the rest kept; on a refusal all of it.
 unfoldable pub label-row : Reading → List ℕ → List ℕ
 label-row (refused f) labels = labels
 label-row (network n) labels = cond (ltb (length labels) (size n)) labels (written (labels-of n) labels)
@@ -40,7 +40,7 @@ pub record LabelledInto (h : Header) (row labels : List ℕ) (r : Labelled) (aft
 abbrev pub either-short : ℕ → List ℕ → List ℕ → Bool
 either-short gates labels members = ltb (length labels) gates || ltb (length members) gates
 
--- The members of the cluster of a root, rising, for any row of labels, one place a gate in each row: how many, and they stand
+-- [R2] The members of the cluster of a root, rising, for any row of labels, one place a gate in each row: how many, and they stand
 -- at the front of the lent row, the rest kept. A root that is no gate has none.
 unfoldable pub cluster-answer : Reading → List ℕ → ℕ → List ℕ → Clustered
 cluster-answer (refused f) labels root members = Clustered.Refused f

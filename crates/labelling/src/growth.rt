@@ -22,8 +22,8 @@ pub(crate) enum Stop {
     Nothing,
 }
 
-// What growth comes to: how many gates of the ordered row joined, what stopped it, and "the largest pull of a primary input
-// inside (0 if none)".
+// What growth comes to: how many gates of the ordered row joined, what stopped it, and the largest pull of an input among those
+// that joined, 0 if there is none [L5].
 pub(crate) struct Grown {
     pub(crate) joined: usize,
     pub(crate) stop: Stop,
@@ -42,7 +42,7 @@ fn or_input(row: &[u16], pulls: &Row, time: Ticks, u: usize) -> Ticks
     }
 }
 
-// "The cluster starts as v. Gates join in that order, and growth stops at the first gate that would overfill it."
+// The cluster is v and those that join it in the order, up to the first that would overfill it [L4].
 fn walk(header: Header, row: &[u16], v: usize, pulls: &Row, ordered: &Order, count: usize) -> Grown
     requires { ⌜ Holds header (now row) × (v < header .gates) ⌝ }
     requires { ⌜ Whole (now ordered) × (count ≤ v) × Below v (take count (now ordered)) ⌝ }

@@ -19,7 +19,7 @@ ghost use Rattle.rows.specs.steps.Holds.{Holds};
 ghost use Rattle.labelling.specs.steps.Standing.{Whole, pull-in};
 ghost use Rattle.labelling.specs.steps.Growing.{stop-of, stop-pull};
 
-// The pull of a gate that stays outside, plus D: whatever gate it is, "its crossing edges cost a hop".
+// The pull of a gate that stays outside, plus D: an input's crossing costs its hop like any other.
 fn outside_pull(hop: Ticks, pulls: &Row, u: usize) -> Ticks
     requires { ⌜ u < most-gates ⌝ }
     ensures { λ r. ⌜ r .0 ≡ held-sum (pull-in (now (pulls .entry)) u) (hop .0) ⌝ }
@@ -27,7 +27,7 @@ fn outside_pull(hop: Ticks, pulls: &Row, u: usize) -> Ticks
     Ticks(pulls[u]).plus(hop)
 }
 
-// "the pull of the gate that stopped growth plus D (0 if none stopped it)"
+// What the gate that stopped growth counts for: its pull and D, 0 if none did [L5].
 fn stop_pull(hop: Ticks, pulls: &Row, stop: Stop) -> Ticks
     requires { ⌜ ((s : ℕ) → stop-of stop ≡ some s → s < most-gates) ⌝ }
     ensures { λ r. ⌜ r .0 ≡ stop-pull (hop .0) (now (pulls .entry)) (stop-of stop) ⌝ }

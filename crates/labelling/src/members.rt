@@ -27,7 +27,7 @@ fn mark(inside: &mut Marks, ordered: &Order, joined: usize)
     }
 }
 
-// A mark for each gate in the cluster of r. "A primary input's .. cluster is itself alone."
+// A mark for each gate in the cluster of r. An input is alone in its cluster [L1].
 fn mark_cluster(header: Header, row: &[u16], labels: &[u32], r: usize, inside: &mut Marks)
     requires { ⌜ Holds header (now row) × (r < header .gates) × (r ≤ length (now labels)) ⌝ }
     ensures { λ _. ⌜ now (inside .exit) ≡ mark (now (inside .entry)) (cluster (network-in header (now (row .entry))) (now (labels .entry)) r) ⌝ }

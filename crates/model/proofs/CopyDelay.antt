@@ -101,7 +101,7 @@ module _ (n : Network) (wf : WellFormed n) (k : Clustering) (w : Wired n k) wher
             (d .0, in-output-copies (d .0) (d .1), largest-unique (d .2) (copy-delay-is (d .0) (d .1 .present)));
       }
 
--- "Output delay: the largest label of a primary output."
+-- [S5] the largest label of a primary output
 pub output-delay-is : (n : Network) → WellFormed n → OutputDelay n (output-delay n)
 unfolding output-delay
 output-delay-is n wf = let o = some-output n wf in largest-map (label n) (outputs n) (o .0) (o .1)

@@ -1,4 +1,4 @@
--- The drawn set "holds the outputs, is closed under inputs, and is contained in every set that does and is".
+-- The drawn set has the outputs, with a root the inputs of its cluster, and nothing that another such set lacks [S1] [S2] [S3].
 use Prim.Native.Nat.{ℕ, zero, suc, _≤_, _<_}
 use mathlib.Core.Path.{_≡_, refl, sym, _∙_, ap}
 use mathlib.Core.Logic.{_⊎_, inl, inr, ⊎-elim}

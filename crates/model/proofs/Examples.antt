@@ -1,4 +1,4 @@
--- The outcomes that document 01 marks for proof and that speak of a network, as one table: antt computes every row.
+-- The worked rows P1 to P9 that speak of a network, as one table: antt computes every row.
 use Prim.Native.Nat.{ℕ}
 use mathlib.Core.Path.{_≡_, refl}
 use mathlib.Core.List.{List, [], _∷_, map}
@@ -25,12 +25,12 @@ A capacity hop =
           ∷ [];
     }
 
--- "one gate, weight, delay, M, D all 0"
+-- [P8] a gate alone, and 0 for whatever a number stands for
 unfoldable pub lone : Network
 unfolding gate-with
 lone = record { capacity = 0; hop = 0; gates = gate-with 0 0 [] ∷ [] }
 
--- "chain 0, 1, 2, weight 1, delay 0, M 2, D 1"
+-- [P9] each gate reads the one before it
 unfoldable pub chain : Network
 unfolding gate-with
 chain =
@@ -77,7 +77,7 @@ rows =
     ∷ row chain 1 (0 ∷ 0 ∷ 1 ∷ []) (0 ∷ 2 ∷ []) ((0 ∷ []) ∷ (1 ∷ 2 ∷ []) ∷ [])
     ∷ []
 
--- "Gate 4: pulls of 2 and 1 are both 7, of 0 it is 6, of 3 it is 5; gate 0 stops growth, so the label is 6 + 4."
+-- [P1] Gate 4 at M 3: gates 2 and 1 pull 7 and join, gate 0 pulls 6 and does not fit, gate 3 pulls 5. The label is 6 and D, 10.
 pub record GateFour (n : Network) : Type 0 where
   pub order : ordered n (labels n) 4 ≡ 2 ∷ 1 ∷ 0 ∷ 3 ∷ []
   pub pulls : map (pull n (labels n) 4) (ordered n (labels n) 4) ≡ 7 ∷ 7 ∷ 6 ∷ 5 ∷ []

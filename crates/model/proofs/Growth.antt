@@ -1,4 +1,4 @@
--- Laws of growth: specs/Label.antt, "Gates join in that order, and growth stops at the first gate that would overfill it".
+-- Laws of growth [L4], specs/Label.antt.
 -- What the later pages use of it: a gate of the cone is a member exactly when the root's weight and those of all gates of
 -- the cone not after it sum to at most M. The stopping gate is the first in the order that is no member, and there is none
 -- exactly when the whole cone fits.
@@ -288,7 +288,7 @@ module _ (n : Network) (l : List ℕ) (v : ℕ) where
       (λ x m. let (k, t) = keep-in (no-later u) x (cone-gates n v) m in in-keep (no-later u) (cone-gates-ordered x k) t)
       (λ x m. let (k, t) = keep-in (no-later u) x (ordered n l v) m in in-keep (no-later u) (ordered-cone-gates x k) t)
 
-  -- "a cone gate is a member exactly when v's weight and those of all cone gates not after it sum to at most M"
+  -- a cone gate joins exactly when v and all cone gates not after it weigh at most M together
 
   pub joined-when :
       (u : ℕ) → u ∈ ordered n l v → weight n v + total (weight n) (not-after n l v u) ≤ n .capacity → u ∈ joined n l v

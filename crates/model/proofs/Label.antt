@@ -1,4 +1,4 @@
--- Laws of labels: specs/Label.antt, "4. The label is the larger of ..", and the row `labels`, in which each gate is labelled
+-- Laws of labels [L5], specs/Label.antt, and of the row `labels`, in which each gate is labelled
 -- from the labels of its cone.
 use Prim.Native.Nat.{ℕ, zero, suc, _+_, _≤_, _<_, max}
 use mathlib.Core.Path.{_≡_, refl, sym, _∙_, ap}
@@ -65,8 +65,7 @@ module _ (n : Network) (l : List ℕ) (v : ℕ) where
   counts-most (input-inside {x = x} m i q) = omega (arith, input-counts x m i)
   counts-most (stopped {x = x} e q) = omega (arith, stop-counts x e)
 
-  -- "the larger of: the largest pull of a primary input inside (0 if none), and the pull of the gate that stopped growth
-  -- plus D (0 if none stopped it)"
+  -- [L5] the largest of what counts
   pub label-from-largest : input n v ≡ false → Largest (Counts n l v) (label-from n l v)
   label-from-largest f =
       rw (label-from-reader f)

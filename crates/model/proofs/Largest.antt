@@ -1,4 +1,4 @@
--- Laws of "the largest".
+-- Laws of `Largest`.
 use Prim.Native.Nat.{ℕ}
 use mathlib.Core.Path.{_≡_}
 use mathlib.Core.Logic.{⊎-elim}

@@ -1,5 +1,5 @@
--- What the class draws wrong: each slip as a definition of its own, and the place in a network of document 01 where it
--- departs from the rule.
+-- What is easily drawn wrong: each slip as a definition of its own, and the place in a worked network where it departs from the
+-- rule.
 use Prim.Native.Nat.{ℕ, zero, suc, _+_, max}
 use mathlib.Core.Path.{_≡_, refl}
 use mathlib.Core.Bool.{false, cond}
@@ -16,7 +16,7 @@ use Rattle.model.specs.Drawing.{name, clustering-of, drawing}
 use Rattle.model.proofs.Lists.{member-false}
 use Rattle.model.proofs.Examples.{A, chain}
 
--- "Cluster of v grown from its fan-ins' clusters": each fan-in's cluster taken whole where it fits.
+-- The cluster of v made of its fan-ins' clusters, each taken whole where it fits.
 take-clusters : Network → List ℕ → List ℕ → List ℕ
 unfolding total weight cluster labels
 take-clusters n taken [] = taken
@@ -32,7 +32,7 @@ from-fanin-clusters :
 unfolding take-clusters A fanins cluster labels
 from-fanin-clusters = (refl, refl)
 
--- ".. or the hop added once a path": the label from pulls that are longest paths without hops.
+-- One hop a path, however many crossings it has: the label from pulls that are longest paths without hops.
 longest : Network → ℕ → ℕ
 unfolding largest onward delay keep input in-cone upto size
 longest n v =
@@ -50,7 +50,7 @@ hop-added-once : (hop-once (A 1 4) 4 ≡ 11) × (label (A 1 4) 4 ≡ 15)
 unfolding hop-once A label
 hop-added-once = (refl, refl)
 
--- "Growth carried past the first gate that won't fit."
+-- Later gates tried behind the one that did not fit.
 grow-on : Network → ℕ → List ℕ → Option ℕ → Option ℕ
 unfolding weight
 grow-on n sum [] last = last
@@ -66,7 +66,7 @@ growth-carried-on : (carried-on (A 3 4) 4 ≡ 9) × (label (A 3 4) 4 ≡ 10)
 unfolding carried-on A label
 growth-carried-on = (refl, refl)
 
--- "Ties by smaller number: in P9 root 2 then holds 0 and not 1, a dead copy."
+-- Of equal pulls the smaller number first: in P9 the cluster of root 2 then has gate 0 and not gate 1, so that its copy feeds nobody.
 place-first : (ℕ → ℕ) → ℕ → List ℕ → List ℕ
 place-first pulls u [] = u ∷ []
 place-first pulls u (w ∷ ws) = cond (leb (pulls w) (pulls u)) (u ∷ w ∷ ws) (w ∷ place-first pulls u ws)
@@ -104,7 +104,7 @@ ties-by-smaller-number : (smaller-first chain 2 ≡ 2 ∷ 0 ∷ []) × (ReachesI
 unfolding smaller-first chain
 ties-by-smaller-number = (refl, dead-copy)
 
--- "A free hop for inputs, as in 000: A with these same clusters would get 9, through gate 3."
+-- No hop where the gate outside is an input: with the same clusters A would come to 9, through gate 3.
 free-crossing : Network → Clustering → ℕ → ℕ → ℕ
 unfolding input crossing
 free-crossing n k b c = cond (input n (k .gate-of b)) 0 (crossing n k b c)
@@ -122,7 +122,7 @@ free-hop-for-inputs :
 unfolding free-delay A drawing name copy-delay
 free-hop-for-inputs = (refl, refl)
 
--- "Feeding a member from another cluster's root when its own cluster has the copy": here with every cluster drawn.
+-- A member fed by another cluster's root although its own cluster has the copy, here with every cluster drawn.
 always-from-roots : Network → Clustering
 unfolding clustering-of upto size name
 always-from-roots n =

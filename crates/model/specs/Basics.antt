@@ -9,7 +9,7 @@ infix 40 _∈_
 abbrev pub _∈_ : ℕ → List ℕ → Type 0
 x ∈ xs = List·Memᴰ x xs
 
--- "the largest": reached, and not exceeded
+-- The largest number of which P holds: reached, and not exceeded.
 pub record Largest (P : ℕ → Type 0) (d : ℕ) : Type 0 where
   pub reached : P d
   pub bounds : (e : ℕ) → P e → e ≤ d

@@ -1,15 +1,15 @@
--- Document 01, "Ceilings", as numbers.
+-- The ceilings as numbers: section Ceilings of docs/RULES.md.
 use Prim.Native.Nat.{ℕ}
 
--- "Gates 1 to 512."
+-- [B1] gates
 abbrev pub most-gates : ℕ
 most-gates = 512
 
--- "Fan-ins 0 to 8."
+-- [B2] fan-ins of a gate
 abbrev pub most-fanins : ℕ
 most-fanins = 8
 
--- "Weight, delay and D 0 to 65,535."
+-- [B3] what two bytes say: a weight, a delay, D
 abbrev pub most-weight : ℕ
 most-weight = 65_535
 
@@ -19,10 +19,10 @@ most-delay = 65_535
 abbrev pub most-hop : ℕ
 most-hop = 65_535
 
--- "M 0 to 4,294,967,295."
+-- [B4] what four bytes say: M
 abbrev pub most-capacity : ℕ
 most-capacity = 4_294_967_295
 
--- "No label exceeds 67,042,305."
+-- [B6] the largest label
 abbrev pub most-label : ℕ
 most-label = 67_042_305

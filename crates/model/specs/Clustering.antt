@@ -1,4 +1,4 @@
--- Document 01, "Legal clustering (003, definitions 1 and 2)".
+-- Legal clusterings, which anyone may draw, and their delay: definitions 1 and 2 of Rajaraman and Wong.
 use Prim.Native.Nat.{ℕ, zero, suc, _+_, _≤_, _<_}
 use mathlib.Core.Path.{_≡_}
 use mathlib.Core.Bool.{cond}
@@ -7,20 +7,21 @@ use lib.Dec.{eqb}
 use Rattle.model.specs.Basics.{_∈_, Largest, Distinct, largest, keep, total, member}
 use Rattle.model.specs.Network.{Network, size, weight, delay, fanins, Input, outputs, position}
 
--- "A finite set of copies, each a copy of one gate and lying in one cluster." Copies and clusters are named by numbers.
--- "For each fan-in of its gate a copy names exactly one copy of that fan-in as feeder."
+-- [C1] Copies of gates, each in a cluster; copies and clusters are named by numbers. [C2] `feeder c x` is the copy that feeds the
+-- copy c where its gate reads the gate x.
 pub record Clustering : Type 0 where
   pub copies : List ℕ
   pub gate-of : ℕ → ℕ
   pub cluster-of : ℕ → ℕ
   pub feeder : ℕ → ℕ → ℕ
 
+-- [C1] [C2] Every copy is of a gate of the network, and is fed by a copy of each of its fan-ins.
 pub record Wired (n : Network) (k : Clustering) : Type 0 where
   pub known : (c : ℕ) → c ∈ k .copies → k .gate-of c < size n
   pub fed : (c x : ℕ) → c ∈ k .copies → x ∈ fanins n (k .gate-of c) → k .feeder c x ∈ k .copies
   pub by-fanin : (c x : ℕ) → c ∈ k .copies → x ∈ fanins n (k .gate-of c) → k .gate-of (k .feeder c x) ≡ x
 
--- "In every cluster the summed weight, two copies of one gate counted twice, is at most M."
+-- The copies that lie in a cluster, and what they weigh: a gate that is there twice counts twice.
 unfoldable pub in-cluster : Clustering → ℕ → List ℕ
 unfolding keep
 in-cluster k j = keep (λ c. eqb (k .cluster-of c) j) (k .copies)
@@ -29,28 +30,30 @@ unfoldable pub cluster-weight : Network → Clustering → ℕ → ℕ
 unfolding total weight in-cluster
 cluster-weight n k j = total (λ c. weight n (k .gate-of c)) (in-cluster k j)
 
+-- [C4] No cluster weighs more than M.
 abbrev pub Fits : Network → Clustering → Type 0
 Fits n k = (j : ℕ) → cluster-weight n k j ≤ n .capacity
 
--- "Each primary output has exactly one copy."
+-- [C3] One copy of the gate, and no other.
 pub record OneCopy (k : Clustering) (v : ℕ) : Type 0 where
   pub copy : ℕ
   pub present : copy ∈ k .copies
   pub of-it : k .gate-of copy ≡ v
   pub only : (c : ℕ) → c ∈ k .copies → k .gate-of c ≡ v → c ≡ copy
 
+-- What a customer's board may be: all of C1 to C4.
 pub record Legal (n : Network) (k : Clustering) : Type 0 where
   pub distinct : Distinct (k .copies)
   pub wired : Wired n k
   pub fits : Fits n k
   pub one-copy : (v : ℕ) → v ∈ outputs n → OneCopy k v
 
--- "plus D for each edge between different clusters"
+-- [C5] what an edge costs: D from one cluster to another, nothing inside one
 unfoldable pub crossing : Network → Clustering → ℕ → ℕ → ℕ
 crossing n k b c = cond (eqb (k .cluster-of b) (k .cluster-of c)) 0 (n .hop)
 
--- A path "from a copy of a primary input" to the copy c, with its total: "the delays of all gates on the path, plus D for
--- each edge between different clusters".
+-- [C5] A path that begins at a copy of a primary input and ends at the copy c, with what it sums to: the delay of each gate on
+-- it, and each crossing.
 pub data CopyPath (n : Network) (k : Clustering) : ℕ → ℕ → Type 0 where
   start : {c d : ℕ} → c ∈ k .copies → Input n (k .gate-of c) → d ≡ delay n (k .gate-of c) → CopyPath n k c d
   onto :
@@ -58,7 +61,7 @@ pub data CopyPath (n : Network) (k : Clustering) : ℕ → ℕ → Type 0 where
       → e ≡ d + crossing n k b c + delay n (k .gate-of c)
       → CopyPath n k c e
 
--- "The delay of a copy is the largest total over paths from a copy of a primary input to it."
+-- [C5] the largest such sum
 abbrev pub Delay : Network → Clustering → ℕ → ℕ → Type 0
 Delay n k c = Largest (CopyPath n k c)
 
@@ -75,7 +78,7 @@ unfoldable pub copy-delay : Network → Clustering → ℕ → ℕ
 unfolding delay-within position
 copy-delay n k c = delay-within n k (suc (position n (k .gate-of c))) c
 
--- "The delay of the clustering is the largest delay of a primary output."
+-- [C6] The copies whose delay counts, and the largest of their delays.
 pub record OutputCopy (n : Network) (k : Clustering) (c : ℕ) : Type 0 where
   pub present : c ∈ k .copies
   pub of-output : k .gate-of c ∈ outputs n

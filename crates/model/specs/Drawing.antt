@@ -1,4 +1,4 @@
--- Document 01, "Selection and wiring": inputs of a cluster, the drawn set, the drawn clustering, the output delay.
+-- Selection and wiring: inputs of a cluster, the drawn set, the drawn clustering, the output delay.
 use Prim.Native.Nat.{ℕ, zero, suc, _+_, _*_, _/_, _%_}
 use mathlib.Core.Path.{_≡_}
 use mathlib.Core.Bool.{cond, not}
@@ -10,7 +10,7 @@ use Rattle.model.specs.Network.{Network, size, fanins, outputs, gate-at}
 use Rattle.model.specs.Label.{labels, label, cluster}
 use Rattle.model.specs.Clustering.{Clustering}
 
--- "each of its inputs: gates outside it that are fan-ins of a member"
+-- [S2] x is an input of the cluster of r: a member reads it, and it is no member itself.
 pub record InputOf (n : Network) (labels : List ℕ) (r x : ℕ) : Type 0 where
   pub reader : ℕ
   pub inside : reader ∈ cluster n labels r
@@ -21,12 +21,12 @@ unfoldable pub inputs : Network → List ℕ → ℕ → List ℕ
 unfolding keep member gather fanins cluster
 inputs n labels r = keep (λ x. not (member x (cluster n labels r))) (gather (fanins n) (cluster n labels r))
 
--- "The clusters of all primary outputs are drawn. Whenever a cluster is drawn, so is the cluster of each of its inputs."
+-- [S1] [S2] What a set of roots has to hold: every output, and with a root every input of its cluster.
 pub record Draws (n : Network) (labels : List ℕ) (roots : ℕ → Type 0) : Type 0 where
   pub every-output : (v : ℕ) → v ∈ outputs n → roots v
   pub every-input : (r x : ℕ) → roots r → InputOf n labels r x → roots x
 
--- "Nothing else is drawn.": the least such set.
+-- [S3] The least such set: whatever else is one has all of its roots.
 pub record Drawn (n : Network) (labels : List ℕ) (roots : List ℕ) : Type 1 where
   pub draws : Draws n labels (λ r. r ∈ roots)
   pub least : (others : ℕ → Type 0) → Draws n labels others → (r : ℕ) → r ∈ roots → others r
@@ -63,8 +63,7 @@ unfoldable pub name : Network → ℕ → ℕ → ℕ
 unfolding size
 name n r m = r * size n + m
 
--- "In a cluster a member's fan-in is fed by that cluster's own copy if it has one, otherwise by the root of the fan-in's
--- own cluster."
+-- [S4] Where a member of the cluster of r reads x: its own cluster's copy of x, and without one the root of the cluster of x.
 unfoldable pub feeds : Network → ℕ → ℕ → ℕ
 unfolding name cluster labels member
 feeds n r x = cond (member x (cluster n (labels n) r)) (name n r x) (name n x x)
@@ -84,7 +83,7 @@ unfoldable pub drawing : Network → Clustering
 unfolding clustering-of drawn labels
 drawing n = clustering-of n (drawn n (labels n))
 
--- "Output delay: the largest label of a primary output."
+-- [S5] the largest label of a primary output
 abbrev pub OutputDelay : Network → ℕ → Type 0
 OutputDelay n = Largest (λ d. (v : ℕ) × (v ∈ outputs n) × (d ≡ label n v))
 

@@ -1,4 +1,4 @@
--- What growth comes to, with no walk in it (document 01, "Labelling", 3).
+-- Rule L4 with no walk in it.
 use Prim.Native.Nat.{ℕ, _+_, _≤_}
 use mathlib.Core.Path.{_≡_}
 use mathlib.Core.Logic.{_↔_}
@@ -10,7 +10,7 @@ use Rattle.model.specs.Network.{Network, weight, position, gate-at}
 use Rattle.model.specs.Onward.{in-cone}
 use Rattle.model.specs.Label.{Before, before, joined, stop}
 
--- "Each u in the cone, v excepted": the cone's gates below the root.
+-- the gates of the cone without v: they stand below it
 unfoldable pub cone-gates : Network → ℕ → List ℕ
 cone-gates n v = keep (λ u. in-cone n u v) (map (gate-at n) (upto (position n v)))
 
@@ -18,7 +18,7 @@ cone-gates n v = keep (λ u. in-cone n u v) (map (gate-at n) (upto (position n v
 unfoldable pub not-after : Network → List ℕ → ℕ → ℕ → List ℕ
 not-after n l v u = keep (λ x. not (before n l v u x)) (cone-gates n v)
 
--- What growth comes to, with no walk in it.
+-- [L4] What growth comes to, with no walk in it.
 pub record Grows (n : Network) (l : List ℕ) (v : ℕ) : Type 0 where
   -- a gate of the cone is a member exactly when the root's weight and those of all gates of the cone not after it sum to
   -- at most M

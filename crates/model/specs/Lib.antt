@@ -1,4 +1,4 @@
--- Document 01 without code: its words, legal clusterings, labelling, selection and wiring, and what is proved of them.
+-- The rules that need no text and no code: words, legal clusterings, labelling, selection and wiring, and what is proved of them.
 pub mod Basics
 pub mod Ceilings
 pub mod Network

@@ -1,4 +1,4 @@
--- Document 01, "Words": gates, networks, primary inputs and outputs, positions.
+-- Gates, networks, primary inputs and outputs, positions.
 use Prim.Native.Nat.{ℕ, _≤_, _<_}
 use mathlib.Core.Path.{_≡_}
 use mathlib.Core.Bool.{Bool, true, false}
@@ -7,13 +7,13 @@ use lib.ListN.{length, getD}
 use Rattle.model.specs.Basics.{_∈_, member, keep, upto}
 use Rattle.model.specs.Ceilings.{most-gates, most-fanins, most-weight, most-delay, most-hop, most-capacity}
 
--- "A gate has a weight, a delay and a list of fan-ins."
+-- [W1] one gate; its fan-ins are gate numbers
 pub record Gate : Type 0 where
   pub weight : ℕ
   pub delay : ℕ
   pub fanins : List ℕ
 
--- "Weights and the capacity M count cells. Delays, labels and the hop delay D count ticks."
+-- [W4] M, which counts cells as weights do; D, which counts ticks as delays do; the gates.
 pub record Network : Type 0 where
   pub capacity : ℕ
   pub hop : ℕ
@@ -22,7 +22,7 @@ pub record Network : Type 0 where
 unfoldable pub size : Network → ℕ
 size n = length (n .gates)
 
--- "Gates are numbered from 0 in the order of the text." A number past the last has no fan-ins, no weight and no delay.
+-- [W1] The gate of a number, counted from 0. A number past the last has no fan-ins, no weight and no delay.
 unfoldable pub gate : Network → ℕ → Gate
 gate n v = getD (n .gates) v (record { weight = 0; delay = 0; fanins = [] })
 
@@ -38,7 +38,7 @@ unfoldable pub fanins : Network → ℕ → List ℕ
 unfolding gate
 fanins n v = gate n v .fanins
 
--- "No fan-ins: a primary input."
+-- [W2] nothing is read
 abbrev pub Input : Network → ℕ → Type 0
 Input n v = fanins n v ≡ []
 
@@ -50,7 +50,7 @@ unfoldable pub input : Network → ℕ → Bool
 unfolding empty fanins
 input n v = empty (fanins n v)
 
--- "Read by no gate: a primary output."
+-- [W3] a gate that no gate reads
 pub record Output (n : Network) (v : ℕ) : Type 0 where
   pub known : v < size n
   pub unread : (w : ℕ) → v ∈ fanins n w → ⊥
@@ -64,7 +64,7 @@ unfoldable pub outputs : Network → List ℕ
 unfolding keep upto size empty read-by
 outputs n = keep (λ v. empty (read-by n v)) (upto (size n))
 
--- A gate's place in an order in which every fan-in stands before its readers: its number.
+-- [W7] A gate's place in an order in which every fan-in stands before its readers: its number.
 unfoldable pub position : Network → ℕ → ℕ
 position n v = v
 
@@ -72,13 +72,13 @@ position n v = v
 unfoldable pub gate-at : Network → ℕ → ℕ
 gate-at n p = p
 
--- "Gates 1 to 512 .." and "each [fan-in] is below the gate's own number".
+-- [B1] [W7] There is a gate, and every fan-in is a gate that stands before its reader.
 pub record WellFormed (n : Network) : Type 0 where
   pub some-gate : 0 < size n
   pub known : (v x : ℕ) → x ∈ fanins n v → x < size n
   pub below : (v x : ℕ) → x ∈ fanins n v → position n x < position n v
 
--- Document 01, "Ceilings".
+-- [B1] [B2] [B3] [B4] nothing is above its ceiling
 pub record WithinCeilings (n : Network) : Type 0 where
   pub gates : size n ≤ most-gates
   pub fan-ins : (v : ℕ) → length (fanins n v) ≤ most-fanins
@@ -87,7 +87,7 @@ pub record WithinCeilings (n : Network) : Type 0 where
   pub hop : n .hop ≤ most-hop
   pub capacity : n .capacity ≤ most-capacity
 
--- "a gate heavier than M"
+-- [N9] a gate that no chip holds
 pub record Heavy (n : Network) (v : ℕ) : Type 0 where
   pub known : v < size n
   pub above : n .capacity < weight n v

@@ -1,4 +1,4 @@
--- Document 01, "Words": paths, the cone, the onward delay.
+-- Paths, the cone, the onward delay.
 use Prim.Native.Nat.{ℕ, zero, suc, pred, _+_, max}
 use mathlib.Core.Path.{_≡_}
 use mathlib.Core.Bool.{Bool}
@@ -8,16 +8,16 @@ use lib.Dec.{ltb}
 use Rattle.model.specs.Basics.{_∈_, Largest}
 use Rattle.model.specs.Network.{Network, size, delay, fanins, position, gate-at}
 
--- A path from u to v with the sum of "the delays of the gates after u, v included".
+-- [W6] A path from u to v, with the delays of its gates summed, that of v counted and that of u not.
 pub data Path (n : Network) (u : ℕ) : ℕ → ℕ → Type 0 where
   start : {v d : ℕ} → u ≡ v → d ≡ 0 → Path n u v d
   onto : {x v d e : ℕ} → Path n u x d → x ∈ fanins n v → e ≡ d + delay n v → Path n u v e
 
--- "The cone of v is v and all gates with a path to v."
+-- [W5] a path leads from u to v; from v to itself one without an edge does
 abbrev pub InCone : Network → ℕ → ℕ → Type 0
 InCone n u v = (d : ℕ) × Path n u v d
 
--- "Onward delay from u to v: the largest sum, over paths from u to v, of the delays of the gates after u, v included."
+-- [W6] the largest such sum
 abbrev pub Onward : Network → ℕ → ℕ → ℕ → Type 0
 Onward n u v = Largest (Path n u v)
 

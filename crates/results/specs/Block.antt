@@ -17,12 +17,12 @@ use Rattle.results.specs.declared.block.Block.{Block}
 use Rattle.results.specs.declared.block.Block.the-variants as block
 use Rattle.results.specs.Result.{result-lines, refusal-bytes}
 
--- as many whole lines from the front as together have room
+-- [R7] as many whole lines from the front as together have room
 unfoldable pub fitting : ℕ → List (List ℕ) → List (List ℕ)
 fitting room [] = []
 fitting room (l ∷ ls) = cond (ltb room (length l)) [] (l ∷ fitting (room - length l) ls)
 
--- What `fitting` picks, in words: lines from the front whose bytes together have room, and no longer run of them has.
+-- [R7] What `fitting` picks, in words: lines from the front whose bytes together have room, and no longer run of them has.
 pub record LongestRun (room : ℕ) (ls run : List (List ℕ)) : Type 0 where
   pub front : run ≡ take (length run) ls
   pub room-for : length (join run) ≤ room
@@ -42,7 +42,7 @@ in-front bytes out = bytes ++ drop (length bytes) out
 unfoldable pub lines-answer : List (List ℕ) → List ℕ → Block
 lines-answer ls out = run-answer ls (fitting (length out) ls)
 
--- The row afterwards: the lines that fit in front, the rest as it was; where none fits all of it as it was.
+-- [R3] The row afterwards: the lines that fit in front, the rest as it was; where none fits all of it as it was.
 unfoldable pub lines-row : List (List ℕ) → List ℕ → List ℕ
 lines-row ls out = in-front (join (fitting (length out) ls)) out
 
@@ -69,6 +69,6 @@ pub record BlockAnswered (index : ℕ) (reading : Reading) (labels row out : Lis
   pub answer : r ≡ block-answer index reading labels row out
   pub kept : after ≡ block-row index reading labels row out
 
--- The lines of a refusal: "one 1E frame".
+-- [F13] the lines of a refusal: one
 abbrev pub refusal-lines : Refusal → List (List ℕ)
 refusal-lines f = spell-line (refusal-bytes f) ∷ []

@@ -1,4 +1,4 @@
--- Document 01, "Frames": the lines of a result.
+-- The lines of a result.
 pub mod Result
 pub mod Line
 pub mod Block

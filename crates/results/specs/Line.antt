@@ -13,7 +13,7 @@ use Rattle.labelling.specs.Promises.{either-short}
 use Rattle.selection.specs.Selection.{roots}
 use Rattle.results.specs.Result.{result-lines}
 
--- One line of the result of a network, from labels and marks. The marked gates are the roots.
+-- [R6] One line of the result of a network, from labels and marks. The marked gates are the roots.
 unfoldable pub told-line : ℕ → Network → List ℕ → List ℕ → List ℕ
 told-line index n labels row = line-at index (result-lines n labels (roots row (size n)))
 

@@ -1,4 +1,4 @@
--- Document 01, "Frames": the result of a network, frame by frame.
+-- The result of a network, frame by frame.
 use Prim.Native.Nat.{ℕ}
 use mathlib.Core.List.{List, [], _∷_, _++_, map}
 use lib.ListN.{length, getD}
@@ -9,33 +9,32 @@ use Rattle.frames.specs.declared.Refusal.{Refusal}
 use Rattle.frames.specs.Digits.{word-bytes, long-bytes, spell-line}
 use Rattle.selection.specs.Selection.{delay-from}
 
--- "11 result: output delay (4), number of drawn clusters (2)"
+-- [F6] the output delay and how many clusters are drawn
 unfoldable pub result-bytes : ℕ → ℕ → List ℕ
 unfolding long-bytes word-bytes
 result-bytes delay clusters = 0x11 ∷ long-bytes delay ++ word-bytes clusters
 
--- "12 label: gate (2), label (4)"
+-- [F7] a gate and its label
 unfoldable pub label-bytes : ℕ → ℕ → List ℕ
 unfolding long-bytes word-bytes
 label-bytes v label = 0x12 ∷ word-bytes v ++ long-bytes label
 
--- "13 cluster: root (2), member count (2), each member (2)"
+-- [F8] a root, how many members its cluster has, and they
 unfoldable pub cluster-bytes : ℕ → List ℕ → List ℕ
 unfolding word-bytes gather
 cluster-bytes r inside = 0x13 ∷ word-bytes r ++ word-bytes (length inside) ++ gather word-bytes inside
 
--- "1F result end: number of gates (2)"
+-- [F9] how many gates there are
 unfoldable pub result-end-bytes : ℕ → List ℕ
 unfolding word-bytes
 result-end-bytes gates = 0x1F ∷ word-bytes gates
 
--- "1E refusal: number (1), line (2)"
+-- [F10] which refusal, and at what line
 unfoldable pub refusal-bytes : Refusal → List ℕ
 unfolding word-bytes
 refusal-bytes f = 0x1E ∷ f .number ∷ word-bytes (f .line)
 
--- "A result is one 11, a 12 for every gate in order, a 13 for every drawn cluster by rising root with members rising, one
--- 1F.", for any row of labels and any roots.
+-- [F12] The lines in their order, for any row of labels and any roots.
 unfoldable pub result-lines : Network → List ℕ → List ℕ → List (List ℕ)
 unfolding spell-line result-bytes delay-from label-bytes upto size cluster-bytes members result-end-bytes
 result-lines n row roots =

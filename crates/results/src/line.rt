@@ -29,7 +29,7 @@ ghost use Rattle.results.specs.Result.{result-bytes, label-bytes, cluste
 ghost use Rattle.results.specs.Line.{LineAnswered};
 ghost use Rattle.results.specs.steps.Line.{later-lines};
 
-// "11 result: output delay (4), number of drawn clusters (2)"
+// The first line: the output delay and how many clusters are drawn [F6].
 fn result_line(delay: Ticks, clusters: u16, out: &mut [u8]) -> Written
     ensures { λ r. ⌜ LineWritten (spell-line (result-bytes (label-place delay) clusters)) (now (out .entry)) r (now (out .exit)) ⌝ }
 {
@@ -42,7 +42,7 @@ fn result_line(delay: Ticks, clusters: u16, out: &mut [u8]) -> Written
     feed(out, at)
 }
 
-// "12 label: gate (2), label (4)"
+// A gate and its label [F7].
 fn label_line(gate: u16, label: u32, out: &mut [u8]) -> Written
     ensures { λ r. ⌜ LineWritten (spell-line (label-bytes gate label)) (now (out .entry)) r (now (out .exit)) ⌝ }
 {
@@ -55,7 +55,7 @@ fn label_line(gate: u16, label: u32, out: &mut [u8]) -> Written
     feed(out, at)
 }
 
-// "13 cluster: root (2), member count (2), each member (2)"
+// A root, how many members its cluster has, and they [F8].
 fn cluster_line(root: u16, members: &[u16], out: &mut [u8]) -> Written
     requires { ⌜ length (now members) < 2 ^ 16 ⌝ }
     ensures { λ r. ⌜ LineWritten (spell-line (cluster-bytes root (now (members .entry)))) (now (out .entry)) r (now (out .exit)) ⌝ }
@@ -70,7 +70,7 @@ fn cluster_line(root: u16, members: &[u16], out: &mut [u8]) -> Written
     feed(out, at)
 }
 
-// "1F result end: number of gates (2)"
+// The last line: how many gates there are [F9].
 fn end_line(gates: u16, out: &mut [u8]) -> Written
     ensures { λ r. ⌜ LineWritten (spell-line (result-end-bytes gates)) (now (out .entry)) r (now (out .exit)) ⌝ }
 {
@@ -82,7 +82,7 @@ fn end_line(gates: u16, out: &mut [u8]) -> Written
     feed(out, at)
 }
 
-// "1E refusal: number (1), line (2)". No text has a line whose number two bytes do not hold; of such a number the two
+// A refusal's line [F10]. No text has a line whose number two bytes do not hold; of such a number the two
 // lowest bytes are written.
 pub fn refusal_line(refusal: Refusal, out: &mut [u8]) -> Written
     ensures { λ r. ⌜ LineWritten (spell-line (refusal-bytes refusal)) (now (out .entry)) r (now (out .exit)) ⌝ }
@@ -163,9 +163,8 @@ pub(crate) fn known_line(
 }
 
 // The line of that index, counted from 0, of the result of the network that stands in the row, from its labels and the
-// marks of its roots: "one 11, a 12 for every gate in order, a 13 for every drawn cluster by rising root with members
-// rising, one 1F"; past the last line nothing. A header and a row that spell a refused text answer that refusal; a row of labels
-// or marks with fewer places than gates, or less room than the line needs, answers 10.
+// marks of its roots [F12]; past the last line nothing [R6]. A header and a row that spell a refused text answer that refusal; a
+// row of labels or marks with fewer places than gates, or less room than the line needs, answers 10.
 pub fn line(
     index: usize,
     header: Header,

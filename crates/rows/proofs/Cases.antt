@@ -1,4 +1,4 @@
--- Network A of document 01 read with a row lent. 9 comes before 10.
+-- Network A read with a row lent. 9 comes before 10.
 use Prim.Native.Nat.{ℕ}
 use mathlib.Core.Path.{_≡_, refl}
 use mathlib.Core.List.{List, [], _∷_, map}

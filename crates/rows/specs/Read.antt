@@ -1,5 +1,4 @@
--- What a text, or a network in its row, answers, and what reading a text leaves in the row: "On every refusal the answer is
--- number and line alone, and no lent row has changed."
+-- What a text, or a network in its row, answers, and what reading a text leaves in the row.
 use Prim.Native.Nat.{ℕ}
 use mathlib.Core.Bool.{cond}
 use mathlib.Core.List.{List}
@@ -29,7 +28,7 @@ abbrev pub refusal-in : Read → Refusal
 refusal-in (Read.Network h) = no-room
 refusal-in (Read.Refused f) = f
 
--- What reading a text answers with this row lent: "Then 9, then 10".
+-- [O5] what reading a text answers with this row lent: 10 comes last
 unfoldable pub in-room : List ℕ → Reading → Reading
 unfolding too-short size
 in-room row (refused f) = refused f
@@ -39,7 +38,7 @@ unfoldable pub answer : List ℕ → List ℕ → Reading
 unfolding in-room reading
 answer text row = in-room row (reading text)
 
--- The row afterwards: filled where a network is answered, as it was on a refusal.
+-- [R4] The row afterwards: filled where a network is answered, as it was on a refusal.
 unfoldable pub filled : Reading → List ℕ → List ℕ
 unfolding fill
 filled (refused f) row = row

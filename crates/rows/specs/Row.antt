@@ -15,11 +15,11 @@ use Rattle.units.specs.declared.FanInCount.{FanInCount}
 use Rattle.units.specs.Units.{cells, ticks, weight-place, capacity-place, delay-place, count-place}
 use Rattle.rows.specs.declared.Header.{Header}
 
--- the places of a block: weight, delay, fan-in count, eight fan-ins
+-- [R1] the places of a block: weight, delay, fan-in count, eight fan-ins
 abbrev pub places : ℕ
 places = 11
 
--- "only a row shorter than its formula answers 10": eleven places a gate.
+-- [R3] the formula of the row's room: eleven places a gate
 unfoldable pub too-short : ℕ → List ℕ → Bool
 too-short gates row = ltb (length row) (places * gates)
 
@@ -27,7 +27,7 @@ too-short gates row = ltb (length row) (places * gates)
 unfoldable pub has-block : List ℕ → ℕ → Bool
 has-block row v = leb (places * suc v) (length row)
 
--- The block of gate v. A row that does not have all of its places has no block for it.
+-- [R1] The block of gate v. A row that does not have all of its places has no block for it.
 unfoldable pub block : List ℕ → ℕ → List ℕ
 unfolding has-block
 block row v = cond (has-block row v) (take places (drop (places * v) row)) []
@@ -55,7 +55,7 @@ unfoldable pub gate-in : List ℕ → ℕ → Gate
 unfolding weight-in delay-in fanins-in
 gate-in row v = record { weight = weight-in row v; delay = delay-in row v; fanins = fanins-in row v }
 
--- The network that stands in the row. A capacity or a hop delay above its ceiling counts as the ceiling.
+-- [R1] The network that stands in the row. A capacity or a hop delay above its ceiling counts as the ceiling.
 unfoldable pub network-in : Header → List ℕ → Network
 unfolding upto gate-in
 network-in h row =
@@ -69,7 +69,7 @@ network-in h row =
 abbrev pub header-of : Network → Header
 header-of n = record { capacity = cells (n .capacity); hop = ticks (n .hop); gates = size n }
 
--- The block of a gate: unused fan-in places are 0.
+-- [R1] The block of a gate: unused fan-in places are 0.
 unfoldable pub block-of : Gate → List ℕ
 block-of g = g .weight ∷ g .delay ∷ length (g .fanins) ∷ g .fanins ++ replicate (most-fanins - length (g .fanins)) 0
 
@@ -78,7 +78,7 @@ unfolding block-of
 blocks [] = []
 blocks (g ∷ gs) = block-of g ++ blocks gs
 
--- The filled row: the blocks of the gates in front, the rest as it was.
+-- [R1] [R3] The filled row: the blocks of the gates in front, the rest as it was.
 unfoldable pub fill : List Gate → List ℕ → List ℕ
 unfolding blocks
 fill gs row = blocks gs ++ drop (places * length gs) row

@@ -1,4 +1,4 @@
--- Document 01, "Refusal numbers", with a row lent, as a relation: number 10 comes after all others.
+-- The refusals of a text with a row lent, as a relation: number 10 comes after all others.
 use Prim.Native.Nat.{ℕ, _*_, _<_}
 use mathlib.Core.List.{List}
 use lib.ListN.{length}
@@ -8,14 +8,14 @@ use Rattle.frames.specs.Refusal.{no-room}
 use Rattle.texts.specs.Says.{Says, Reads}
 use Rattle.rows.specs.Row.{places}
 
--- "lent row too short for this network": "a row shorter than its formula", eleven places a gate
+-- [N10] [R3] shorter than eleven places a gate
 abbrev pub Short : ℕ → List ℕ → Type 0
 Short gates row = length row < places * gates
 
 -- The table says a refusal of the text, with this row lent.
 pub data SaysRoom (text row : List ℕ) : Refusal → Type 0 where
   of-text : {f : Refusal} → Says text f → SaysRoom text row f
-  -- "then 10", line 0
+  -- [O5] only of a text that is a network's, at line 0
   short-row : {n : Network} → Reads text n → Short (size n) row → SaysRoom text row no-room
 
 -- The text is this network's, and the row has room for it.

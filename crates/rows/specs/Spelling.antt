@@ -16,7 +16,7 @@ unfoldable pub gate-line : List ℕ → ℕ → List ℕ
 unfolding spell-line gate-bytes gate-in count-in
 gate-line row v = spell-line (gate-bytes (gate-in row v) (held 8 (count-in row v)))
 
--- the lines: the header, the gates, the end
+-- [F11] the lines: the header, the gates, the end
 unfoldable pub row-lines : Header → List ℕ → List (List ℕ)
 unfolding spell-line header-bytes gate-line upto end-bytes
 row-lines h row =
@@ -29,8 +29,7 @@ unfoldable pub spell : Header → List ℕ → List ℕ
 unfolding join row-lines
 spell h row = join (row-lines h row)
 
--- "A network handed over as rows answers as the text those rows spell." A row too short for the gates that the header claims
--- spells nothing: 10.
+-- [R5] What the text that they spell answers. A row too short for the gates that the header claims spells nothing: 10.
 unfoldable pub row-answer : Header → List ℕ → Reading
 unfolding too-short reading spell
 row-answer h row = cond (too-short (h .gates) row) (refused no-room) (reading (spell h row))

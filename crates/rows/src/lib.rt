@@ -335,7 +335,7 @@ impl Header {
     }
 }
 
-// What a header and a row handed over answer: "as the text those rows spell", and 10 where the row is too short for the gates
+// What a header and a row handed over answer: what the text that they spell does [R5], and 10 where the row is too short for the gates
 // that the header claims.
 pub fn check(header: Header, row: &[u16]) -> Read
     ensures { λ r. ⌜ r ≡ checked header (now (row .entry)) ⌝ }

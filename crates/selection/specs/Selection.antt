@@ -15,7 +15,7 @@ use Rattle.labelling.specs.Promises.{either-short}
 use Rattle.selection.specs.declared.Drawing.{Drawing}
 use Rattle.selection.specs.declared.Drawing.the-variants as drawing
 
--- "Output delay: the largest label of a primary output", for any row of labels.
+-- [S5] the largest label of a primary output, for any row of labels
 unfoldable pub delay-from : Network → List ℕ → ℕ
 unfolding largest outputs
 delay-from n labels = largest (map (λ v. getD labels v 0) (outputs n))
@@ -24,8 +24,8 @@ delay-from n labels = largest (map (λ v. getD labels v 0) (outputs n))
 unfoldable pub roots : List ℕ → ℕ → List ℕ
 roots marks k = keep (λ r. ltb 0 (getD marks r 0)) (upto k)
 
--- A refusal of the text that the row spells is handed on; the labels and the marks need a place for each gate. "Counts of
--- clusters .. equal the selection's own sets".
+-- [R2] A refusal of the text that the row spells is handed on; the labels and the marks need a place for each gate. The count is
+-- that of the drawn set itself.
 unfoldable pub drawn-answer : Reading → List ℕ → List ℕ → Drawing
 drawn-answer (refused f) labels row = drawing.Refused f
 drawn-answer (network n) labels row =

@@ -74,7 +74,7 @@ fn largest_unmarked(row: &Marks, gates: usize, labels: &[u32]) -> Ticks
     largest
 }
 
-// "Output delay: the largest label of a primary output.", of a network that `rows::check` has found in the row.
+// The largest label of a primary output [S5], of a network that `rows::check` has found in the row.
 pub fn output_delay(header: Header, row: &[u16], labels: &[u32]) -> Ticks
     requires { ⌜ Holds header (now row) × (header .gates ≤ length (now labels)) ⌝ }
     ensures { λ r. ⌜ r .0 ≡ delay-from (network-in header (now (row .entry))) (now (labels .entry)) ⌝ }
@@ -102,7 +102,7 @@ fn mark_unmarked(row: &Marks, marks: &mut [u8])
     }
 }
 
-// "The clusters of all primary outputs are drawn.": a mark for each of them, and for no other gate.
+// A mark for each primary output [S1], and for no other gate.
 fn mark_outputs(header: Header, row: &[u16], marks: &mut [u8])
     requires { ⌜ Holds header (now row) × (length (now marks) ≡ header .gates) ⌝ }
     ensures { λ _. ⌜ now (marks .exit) ≡ mark (replicate (header .gates) 0) (unread (now (row .entry)) (header .gates)) ⌝ }
@@ -132,7 +132,7 @@ fn mark_outside(marks: &mut [u8], inside: &Marks, gates: &[u16])
     }
 }
 
-// A mark for each input of a cluster: "gates outside it that are fan-ins of a member".
+// A mark for each input of a cluster [S2]: what a member reads and the cluster does not have.
 fn mark_inputs(marks: &mut [u8], inside: &Marks, header: Header, row: &[u16], members: &[u16])
     requires { ⌜ Holds header (now row) × (length (now marks) ≡ header .gates) × Below (header .gates) (now members) ⌝ }
     ensures { λ _. ⌜ now (marks .exit) ≡ mark (now (marks .entry)) (outside (now (inside .entry)) (fanins-of (now (row .entry)) (now (members .entry)))) ⌝ }
@@ -187,8 +187,7 @@ fn draw_inputs(header: Header, row: &[u16], labels: &[u32], root: usize, marks: 
     mark_inputs(marks, &inside, header, row, &members[..count]);
 }
 
-// "Whenever a cluster is drawn, so is the cluster of each of its inputs": from the last gate to the first, since the
-// inputs of a cluster stand below its root.
+// With each marked root a mark for the inputs of its cluster [S2]: from the last gate to the first, since these stand below it.
 fn sweep(header: Header, row: &[u16], labels: &[u32], marks: &mut [u8])
     requires { ⌜ Holds header (now row) × (header .gates ≤ length (now labels)) × (length (now marks) ≡ header .gates) ⌝ }
     ensures { λ _. ⌜ now (marks .exit) ≡ select (network-in header (now (row .entry))) (now (labels .entry)) (header .gates) (now (marks .entry)) ⌝ }

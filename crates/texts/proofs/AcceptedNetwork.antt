@@ -60,7 +60,7 @@ light-at capacity at (g ∷ gs) e zero d h = ltb-false capacity (g .weight) (pas
 light-at capacity at (g ∷ gs) e (suc i) d h =
     light-at capacity (suc at) gs (passed (ltb capacity (g .weight)) at _ e .1) i d (omega arith)
 
--- "Ceilings", "Fan-ins rise strictly and each is below the gate's own number", and no gate is heavier than M.
+-- Of an accepted network nothing is above its ceiling, fan-ins rise and stand before their gate, and no gate is heavier than M.
 pub record AcceptedNetwork (n : Network) : Type 0 where
   pub some-gate : 0 < size n
   pub gates : size n ≤ most-gates

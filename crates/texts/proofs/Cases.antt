@@ -1,4 +1,4 @@
--- P7 and P10 to P13 of document 01, and cases that go wrong easily, each with its answer: one table, one statement.
+-- The worked rows P7 and P10 to P13, and cases that go wrong easily, each with its answer: one table, one statement.
 use Prim.Native.Nat.{ℕ, zero, suc}
 use Prim.Native.String.{String}
 use mathlib.Core.Path.{_≡_, refl}

@@ -1,4 +1,4 @@
--- "its line": where all lines are faultless up to 0F, gate v stands in line v + 2, and the network has two lines more than gates.
+-- Where all lines are faultless up to 0F, gate v stands in line v + 2, and the network has two lines more than gates.
 use Prim.Native.Nat.{ℕ, suc, _+_, _<_}
 use mathlib.Core.Path.{_≡_, refl, sym, _∙_, ap}
 use mathlib.Core.Bool.{Bool, true, false, cond}

@@ -2,8 +2,8 @@
 -- when the table says nothing.
 -- After faultless lines the walk stands where `Before` says, so what the table says of the next line, of the end or of the
 -- weights is what reading answers there. And of every text it says something or a network is read: follow the lines until
--- one is faulty or none is left, then look at the place and at the weights. An answer is never two answers, so both are
--- "exactly when".
+-- one is faulty or none is left, then look at the place and at the weights. An answer is never two answers, so each is told
+-- exactly when it is said.
 use Prim.Native.Nat.{ℕ, suc, _+_, _≤_, _<_}
 use mathlib.Core.Path.{_≡_, refl, sym, _∙_, ap}
 use mathlib.Core.List.{List, [], _∷_, _++_, append-nil, append-assoc}

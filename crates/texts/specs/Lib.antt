@@ -1,4 +1,4 @@
--- Document 01, "Frames" and "Refusal numbers", for a whole text.
+-- Frames and refusals, for a whole text.
 pub mod Reading
 pub mod Says
 pub mod Spelling

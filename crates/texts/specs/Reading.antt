@@ -13,11 +13,11 @@ use Rattle.frames.specs.declared.Refusal.{Refusal}
 use Rattle.frames.specs.Refusal.{at-line, at-no-line}
 use Rattle.frames.specs.Table.{kind, fault, next-place, header-capacity, header-hop, gate-of}
 
--- "Text 24,576 bytes."
+-- [B5] the bytes that a text may have
 abbrev pub most-text : ℕ
 most-text = 24_576
 
--- "On every refusal the answer is number and line alone."
+-- [T1] a refusal, or a network
 pub data Reading : Type 0 where
   refused : Refusal → Reading
   network : Network → Reading
@@ -41,7 +41,7 @@ take-in n Opening l = with-header n l
 take-in n (AfterGates g) l = cond (eqb (kind l) 0x02) (with-gate n l) n
 take-in n Closed l = n
 
--- "A missing 0F comes after all lines", told at "lines + 1".
+-- [O4] a missing end, told behind the last line
 unfoldable pub at-the-end : Place → ℕ → Network → Reading
 at-the-end Opening at n = refused (at-line 3 at)
 at-the-end (AfterGates g) at n = refused (at-line 3 at)
@@ -52,13 +52,13 @@ unfoldable pub unless : Option ℕ → ℕ → Reading → Reading
 unless none at r = r
 unless (some k) at r = refused (at-line k at)
 
--- "Lines count from 1." "the first faulty line decides, in it the lowest number"
+-- [O3] the first faulty line decides
 unfoldable pub walk : Place → ℕ → Network → List Line → Reading
 unfolding at-the-end unless fault next-place take-in
 walk p at n [] = at-the-end p at n
 walk p at n (l ∷ ls) = unless (fault p l) at (walk (next-place p l) (suc at) (take-in n p l) ls)
 
--- 9: "a gate heavier than M; the lowest-numbered", told at "its line": gate 0 stands in line 2.
+-- [N9] the line of the first gate heavier than M; gate 0 stands in line 2
 unfoldable pub first-heavy : ℕ → ℕ → List Gate → Option ℕ
 first-heavy capacity at [] = none
 first-heavy capacity at (g ∷ gs) = cond (ltb capacity (g .weight)) (some at) (first-heavy capacity (suc at) gs)
@@ -72,7 +72,7 @@ unfolding told-heavy first-heavy
 weigh (refused f) = refused f
 weigh (network n) = told-heavy (first-heavy (n .capacity) 2 (n .gates)) n
 
--- "Order: 1 first. Then 2 to 8 .. Then 9": 1 is "text above 24,576 bytes", line 0.
+-- [N1] [O2] [O5] Too long first, then the lines, then a heavy gate.
 unfoldable pub reading : List ℕ → Reading
 unfolding weigh walk nothing-read lines
 reading text = cond (ltb most-text (length text)) (refused (at-no-line 1)) (weigh (walk Opening 1 nothing-read (lines text)))

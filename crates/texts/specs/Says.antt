@@ -1,4 +1,4 @@
--- Document 01, "Refusal numbers", for a whole text, as a relation: the number that the table says, and its line.
+-- The refusals of a whole text as a relation: the number that the table says, and its line.
 use Prim.Native.Nat.{ℕ, suc, _+_, _≤_, _<_}
 use mathlib.Core.Path.{_≡_}
 use mathlib.Core.List.{List, [], _∷_, _++_}
@@ -21,24 +21,24 @@ pub data Before : List Line → Place → Network → Type 0 where
       {front : List Line} {p : Place} {n : Network} {l : Line} →
       Before front p n → Faultless p l → Before (front ++ (l ∷ [])) (next-place p l) (take-in n p l)
 
--- "a gate heavier than M; the lowest-numbered"
+-- [N9] heavier than M, and no gate before it is
 pub record LowestHeavy (n : Network) (v : ℕ) : Type 0 where
   pub heavy : Heavy n v
   pub lowest : (u : ℕ) → u < v → Heavy n u → ⊥
 
 -- The table says a refusal of the text.
 pub data Says (text : List ℕ) : Refusal → Type 0 where
-  -- 1: "text above 24,576 bytes", line 0. "1 first": the others are said of a text that is not too long.
+  -- [N1] [O2] The others are said of a text that is not too long.
   too-long : most-text < length text → Says text (at-no-line 1)
-  -- 2 to 8: "the first faulty line decides, in it the lowest number", its line. "Lines count from 1."
+  -- [O3] No line in front of it is faulty. [O1] Lines count from 1.
   faulty-line :
       {front : List Line} {l : Line} {p : Place} {n : Network} {k : ℕ} (back : List Line) →
       length text ≤ most-text → Before front p n → lines text ≡ front ++ (l ∷ back) → Given k p l → Says text (at-line k (suc (length front)))
-  -- 3: "no 0F frame", line lines + 1. "A missing 0F comes after all lines."
+  -- [N3] [O4] No line is faulty, and the end is missing.
   no-end :
       {p : Place} {n : Network} →
       length text ≤ most-text → Before (lines text) p n → (p ≡ Closed → ⊥) → Says text (at-line 3 (suc (length (lines text))))
-  -- "Then 9": its line, which for gate 0 is line 2.
+  -- [N9] [O5] No line is faulty, and the end is there; gate 0 stands in line 2.
   too-heavy :
       {n : Network} {v : ℕ} →
       length text ≤ most-text → Before (lines text) Closed n → LowestHeavy n v → Says text (at-line 9 (v + 2))

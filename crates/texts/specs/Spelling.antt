@@ -6,17 +6,17 @@ use Rattle.model.specs.Basics.{gather}
 use Rattle.model.specs.Network.{Gate, Network, size}
 use Rattle.frames.specs.Digits.{word-bytes, long-bytes, spell-line}
 
--- "01 header: M (4), D (2)"
+-- [F3] M and D
 unfoldable pub header-bytes : ℕ → ℕ → List ℕ
 unfolding long-bytes word-bytes
 header-bytes capacity hop = 0x01 ∷ long-bytes capacity ++ word-bytes hop
 
--- "02 gate: weight (2), delay (2), fan-in count (1), each fan-in (2)"
+-- [F4] weight, delay, fan-in count, fan-ins
 unfoldable pub gate-bytes : Gate → ℕ → List ℕ
 unfolding word-bytes gather
 gate-bytes g count = 0x02 ∷ word-bytes (g .weight) ++ word-bytes (g .delay) ++ (count ∷ []) ++ gather word-bytes (g .fanins)
 
--- "0F end: number of gates (2)"
+-- [F5] how many gates
 unfoldable pub end-bytes : ℕ → List ℕ
 unfolding word-bytes
 end-bytes gates = 0x0F ∷ word-bytes gates
@@ -25,7 +25,7 @@ unfoldable pub join : List (List ℕ) → List ℕ
 join [] = []
 join (l ∷ ls) = l ++ join ls
 
--- the lines of a network, and the text that it spells
+-- [F11] the lines of a network, and the text that it spells
 unfoldable pub network-lines : Network → List (List ℕ)
 unfolding spell-line header-bytes gate-bytes end-bytes size
 network-lines n =

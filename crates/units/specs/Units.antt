@@ -1,5 +1,5 @@
 -- What each function of `units` answers. The ceilings are the model's, so that the code's constants, which the makers
--- test against, cannot drift from them. "An area is never added to or compared with a time": no definition takes both.
+-- test against, cannot drift from them. No definition takes both an area and a time [W4].
 use Prim.Native.Nat.{ℕ, _+_, _-_, _^_, min, max}
 use mathlib.Core.Bool.{Bool, cond}
 use lib.Dec.{leb, ltb}
@@ -24,18 +24,18 @@ abbrev pub ticks : ℕ → Ticks
 ticks n = record { 0 = n }
 
 -- A maker's answer: the number made where it is within its ceiling, and otherwise that it is above it.
--- "Weight, delay and D 0 to 65,535."
+-- [B3] a weight, and a delay
 abbrev pub weighed : ℕ → Weighed
 weighed x = cond (leb x most-weight) (weight.Made (cells x)) weight.Above
 
 abbrev pub delayed : ℕ → Delayed
 delayed x = cond (leb x most-delay) (delay.Made (ticks x)) delay.Above
 
--- "Gates 1 to 512", "numbered from 0": the gate numbers are those below the ceiling.
+-- [B1] gate numbers count from 0, so they are those below the ceiling
 abbrev pub numbered : ℕ → Numbered
 numbered x = cond (ltb x most-gates) (number.Made (record { 0 = x })) number.Above
 
--- "Fan-ins 0 to 8."
+-- [B2] a number of fan-ins
 abbrev pub counted : ℕ → Counted
 counted x = cond (leb x most-fanins) (count.Made (record { 0 = x })) count.Above
 
@@ -47,15 +47,14 @@ held bits x = min x (2 ^ bits - 1)
 abbrev pub held-sum : ℕ → ℕ → ℕ
 held-sum a b = held 64 (a + b)
 
--- "Weights and the capacity M count cells." In a cluster "the summed weight .. is at most M".
+-- [W4] Areas: summed, and measured against M [C4].
 abbrev pub area-sum : Cells → Cells → ℕ
 area-sum a b = held-sum (a .0) (b .0)
 
 abbrev pub fits : Cells → Cells → Bool
 fits a capacity = leb (a .0) (capacity .0)
 
--- "Delays, labels and the hop delay D count ticks." "Pull = label of u + onward delay"; a label is "the larger of" two
--- times; gates are taken "by pull, larger first".
+-- [W4] Times: summed to a pull [L2], the larger of two taken [L5], compared where gates are taken by pull [L3].
 abbrev pub time-sum : Ticks → Ticks → ℕ
 time-sum a b = held-sum (a .0) (b .0)
 

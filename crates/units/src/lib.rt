@@ -175,7 +175,7 @@ pub enum Numbered {
 }
 
 impl GateNumber {
-    // Document 01, "Gates 1 to 512": the gate numbers are those below it.
+    // A network has at most so many gates [B1], and their numbers are those below it.
     pub const MOST_GATES: usize = 512;
 
     // The gate number x, unless no network has a gate of that number.
@@ -200,7 +200,7 @@ pub enum Counted {
 }
 
 impl FanInCount {
-    // Document 01, "Fan-ins 0 to 8".
+    // A gate has at most so many fan-ins [B2].
     pub const MOST: usize = 8;
 
     // The fan-in count x, unless it is above the ceiling.

@@ -1,4 +1,4 @@
--- Network A of document 01 in its row, and its lines.
+-- Network A in its row, and its lines.
 use Prim.Native.Nat.{ℕ}
 use mathlib.Core.Path.{_≡_, refl}
 use mathlib.Core.List.{List, [], _∷_, _++_}

@@ -9,12 +9,12 @@ use Rattle.texts.specs.Reading.{Reading, refused, network}
 use Rattle.rows.specs.declared.Header.{Header}
 use Rattle.rows.specs.Spelling.{row-lines, row-answer}
 
--- "A network handed over as rows answers as the text those rows spell": a refusal of that text is handed on.
+-- [R5] a refusal of the text that the row spells is handed on
 unfoldable pub answer-unless : Reading → Written → Written
 answer-unless (refused f) w = Refused f
 answer-unless (network n) w = w
 
--- "On every refusal .. no lent row has changed."
+-- [R4] on a refusal the row as it was
 unfoldable pub row-unless : Reading → List ℕ → List ℕ → List ℕ
 row-unless (refused f) out row = out
 row-unless (network n) out row = row

@@ -17,7 +17,7 @@ ghost use Rattle.rows.specs.Spelling.{gate-line, row-lines};
 ghost use Rattle.rows.specs.steps.Holds.{Holds};
 ghost use Rattle.writing.specs.Promises.{RowWritten};
 
-// "01 header: M (4), D (2)": the digits of seven bytes, and the line feed.
+// The header's line [F3]: the digits of seven bytes, and the line feed.
 fn spell_header(capacity: u32, hop: u16, out: &mut [u8]) -> Written
     ensures { λ r. ⌜ LineWritten (spell-line (header-bytes capacity hop)) (now (out .entry)) r (now (out .exit)) ⌝ }
 {
@@ -30,7 +30,7 @@ fn spell_header(capacity: u32, hop: u16, out: &mut [u8]) -> Written
     feed(out, at)
 }
 
-// "0F end: number of gates (2)"
+// The end's line [F5].
 fn spell_end(gates: u16, out: &mut [u8]) -> Written
     ensures { λ r. ⌜ LineWritten (spell-line (end-bytes gates)) (now (out .entry)) r (now (out .exit)) ⌝ }
 {
@@ -42,7 +42,7 @@ fn spell_end(gates: u16, out: &mut [u8]) -> Written
     feed(out, at)
 }
 
-// "02 gate: weight (2), delay (2), fan-in count (1), each fan-in (2)"
+// A gate's line [F4].
 fn spell_gate(header: Header, row: &[u16], gate: usize, out: &mut [u8]) -> Written
     requires { ⌜ Holds header (now row) × (gate < header .gates) ⌝ }
     ensures { λ r. ⌜ LineWritten (gate-line (now (row .entry)) gate) (now (out .entry)) r (now (out .exit)) ⌝ }

@@ -19,7 +19,7 @@ Whole row = length row ≡ most-gates
 abbrev pub Below : ℕ → List ℕ → Type 0
 Below k xs = (x : ℕ) → x ∈ xs → x < k
 
--- "by pull, larger first": no gate of the list pulls more than one before it.
+-- [L3] no gate of the list pulls more than one before it
 pub data Falls (pulls : ℕ → ℕ) : List ℕ → Type 0 where
   end : Falls pulls []
   first : {x : ℕ} {xs : List ℕ} → ((y : ℕ) → y ∈ xs → pulls y ≤ pulls x) → Falls pulls xs → Falls pulls (x ∷ xs)

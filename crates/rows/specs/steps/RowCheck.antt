@@ -1,4 +1,4 @@
--- What a row answers, found without spelling it: the faults that a spelled text can have, in document 01's order. What a row
+-- What a row answers, found without spelling it: the faults that a spelled text can have, in the order of the refusals. What a row
 -- spells is well-formed hexadecimal in the right places, so that 2, 3 and 7 cannot come back.
 use Prim.Native.Nat.{ℕ, zero, suc, _+_, _*_}
 use mathlib.Core.Bool.{Bool, cond, not}
@@ -35,11 +35,11 @@ unfoldable pub first-of : Fault → Fault → Fault
 first-of None f = f
 first-of (Found r) f = Found r
 
--- "Lines count from 1": the header has the first, so that gate v stands in line v + 2.
+-- [O1] The header has line 1, so that gate v stands in line v + 2.
 abbrev pub line-of-gate : ℕ → ℕ
 line-of-gate v = v + 2
 
--- 1: the bytes of the text. The header's line and the end's have 22; a gate's has 13, and 4 for each fan-in that is spelled.
+-- [N1] The bytes of the text. The header's line and the end's have 22; a gate's has 13, and 4 for each fan-in that is spelled.
 unfoldable pub gate-length : List ℕ → ℕ → ℕ
 gate-length row v = 13 + 4 * length (fanins-in row v)
 
@@ -52,7 +52,7 @@ unfoldable pub too-long : ℕ → List ℕ → Bool
 unfolding gates-length
 too-long gates row = ltb most-text (22 + gates-length row 0 gates)
 
--- 4, 5 and 6, the faults that the line of a gate can have
+-- [N4] [N5] [N6] the faults that the line of a gate can have
 unfoldable pub gate-number : ℕ → ℕ → List ℕ → Option ℕ
 unfolding rising-from
 gate-number v count fanins =
@@ -68,7 +68,7 @@ unfolding first-of gate-fault
 first-fault row v zero = None
 first-fault row v (suc k) = first-of (gate-fault row v) (first-fault row (suc v) k)
 
--- 9: "a gate heavier than M; the lowest-numbered"
+-- [N9] a gate heavier than M
 unfoldable pub heavy-fault : ℕ → ℕ → ℕ → Fault
 unfolding fault-if
 heavy-fault v weight capacity = fault-if (ltb capacity weight) (at-line 9 (line-of-gate v))
@@ -79,7 +79,7 @@ first-heavy-fault capacity row v zero = None
 first-heavy-fault capacity row v (suc k) =
     first-of (heavy-fault v (weight-in row v) capacity) (first-heavy-fault capacity row (suc v) k)
 
--- "Order: 1 first. Then 2 to 8 .. Then 9", of a row that is long enough
+-- [O2] [O3] [O5] the order, of a row that is long enough
 unfoldable pub text-fault : Header → List ℕ → Fault
 unfolding first-of fault-if too-long first-fault first-heavy-fault
 text-fault h row =
