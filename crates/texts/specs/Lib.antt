@@ -1,4 +1,5 @@
 -- Document 01, "Frames" and "Refusal numbers", for a whole text.
 pub mod Reading
 pub mod Says
+pub mod Exactly
 pub mod Spelling
