@@ -1,6 +1,6 @@
 -- [T4] No second outcome meets a contract. A contract is handed to these statements as the function's `Learnt`: what its `ensures`
 -- says of the arguments, the result and the parameters at exit. κs are the lifetimes of the references among them.
--- proofs/Unique.antt of every crate with code proves one of the two for each of its public functions.
+-- proofs/Unique.antt of every library with code proves one of the two for each of its public functions.
 use mathlib.Core.Path.{_≡_}
 
 -- [T4] Two outcomes that a contract allows for the same arguments are one: the result, and the lent rows at exit. Where no row is
