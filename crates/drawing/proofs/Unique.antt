@@ -1,7 +1,7 @@
--- No second outcome meets a contract of `drawing`. Each statement is about the contract itself: `Learnt` is what the
--- function's `ensures` says of the arguments, the result and the parameters at exit.
+-- [T4] No second outcome meets a contract of `drawing`.
 use denote.Ref.{now}
-use Rattle.frames.proofs.Unique.{OneOutcome, same}
+use Rattle.units.specs.Outcome.{OneOutcome}
+use Rattle.units.proofs.Unique.{same}
 use Rattle.drawing.specs.Prepared.{lent-of}
 use Rattle.drawing.proofs.prepare.Reads as prepare
 use Rattle.drawing.proofs.tell.Reads as tell

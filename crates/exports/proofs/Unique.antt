@@ -1,6 +1,7 @@
 -- No second outcome meets a contract of `exports`.
 use denote.Ref.{now}
-use Rattle.frames.proofs.Unique.{OneOutcome, same}
+use Rattle.units.specs.Outcome.{OneOutcome}
+use Rattle.units.proofs.Unique.{same}
 use Rattle.exports.proofs.lykophene_label.Reads as label
 use Rattle.exports.proofs.lykophene_line.Reads as line
 

@@ -1,8 +1,8 @@
--- No second outcome meets a contract of `reading`. Each statement is about the contract itself: `Learnt` is what the
--- function's `ensures` says of the arguments, the result and the parameters at exit.
+-- [T4] No second outcome meets a contract of `reading`.
 use mathlib.Core.Path.{refl}
 use denote.Ref.{now}
-use Rattle.frames.proofs.Unique.{OneOutcome, same}
+use Rattle.units.specs.Outcome.{OneOutcome}
+use Rattle.units.proofs.Unique.{same}
 use Rattle.reading.proofs.look.Reads as look
 use Rattle.reading.proofs.read.Reads as read
 

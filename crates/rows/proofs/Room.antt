@@ -1,4 +1,5 @@
--- Laws of specs/Says.antt: number 10 is added, after all others.
+-- [O6] `AnswerExactly` of specs/Exactly.antt: with a row lent the answer is a refusal exactly when the table says it, 10
+-- included, which is said after all others, and a network exactly when the table says nothing.
 use Prim.Native.Nat.{ℕ, _*_}
 use mathlib.Core.Path.{_≡_, refl, _∙_, ap}
 use mathlib.Core.Bool.{Bool, true, false, cond}
@@ -11,11 +12,12 @@ use Rattle.frames.specs.Refusal.{no-room}
 use Rattle.frames.proofs.Tests.{never}
 use Rattle.texts.specs.Reading.{Reading, refused, network, reading}
 use Rattle.texts.specs.Says.{Reads}
-use Rattle.texts.proofs.Exactly.{Exactly, Some, said, read, exactly}
+use Rattle.texts.proofs.Exactly.{Some, said, read, exactly}
 use Rattle.texts.proofs.Table.{reading-exactly}
 use Rattle.rows.specs.Row.{places, too-short}
 use Rattle.rows.specs.Read.{in-room, answer}
 use Rattle.rows.specs.Says.{Short, SaysRoom, of-text, short-row, ReadsRoom}
+use Rattle.rows.specs.Exactly.{AnswerExactly}
 
 -- a row is too short by the test exactly when it is
 
@@ -63,9 +65,7 @@ module _ (text row : List ℕ) where
   says-or-reads (refused f) e = said (of-text (reading-exactly text .refusal f .0 e))
   says-or-reads (network n) e = enough n (reading-exactly text .whole n .0 e) (too-short (size n) row) refl
 
-  -- With a row lent the answer is a refusal exactly when the table says it, 10 included, and a network exactly when the table
-  -- says nothing.
-  pub answer-exactly : Exactly (SaysRoom text row) (ReadsRoom text row) (answer text row)
-  answer-exactly =
-      exactly (SaysRoom text row) (ReadsRoom text row) (answer text row) refused-says network-reads
-      (says-or-reads (reading text) refl)
+pub answer-exactly : AnswerExactly
+answer-exactly text row =
+    exactly (SaysRoom text row) (ReadsRoom text row) (answer text row) (refused-says text row) (network-reads text row)
+    (says-or-reads text row (reading text) refl)

@@ -1,9 +1,9 @@
--- No second outcome meets a contract of `rows`. Each statement is about the contract itself: `Learnt` is what the
--- function's `ensures` says of the arguments, the result and the parameters at exit.
-use mathlib.Core.Path.{_≡_, refl, ap}
+-- [T4] No second outcome meets a contract of `rows`.
+use mathlib.Core.Path.{refl, ap}
 use denote.Ref.{now}
 use Rattle.units.specs.Units.{cells, ticks}
-use Rattle.frames.proofs.Unique.{OneOutcome, same}
+use Rattle.units.specs.Outcome.{OneOutcome, OneContent}
+use Rattle.units.proofs.Unique.{same}
 use Rattle.rows.proofs.Read.refusal.Reads as read-refusal
 use Rattle.rows.proofs.too_short.Reads as too-short
 use Rattle.rows.proofs.weight.Reads as weight
@@ -34,13 +34,7 @@ is-input-unique κs args r s exit exit′ p q = (same p q, refl)
 pub check-unique : OneOutcome check.Learnt (λ κs exit. tt {0})
 check-unique κs args r s exit exit′ p q = (same p q, refl)
 
--- The result is a part of the row: two results that the contract allows hold the same numbers. Nothing is said of where they lie.
-
-abbrev pub OneContent :
-    {K X : Type 0} {A R E : K → Type 0} → ((κs : K) → A κs → R κs → E κs → Type 0) → ((κs : K) → R κs → X) → Type 0
-OneContent {K} {X} {A} {R} {E} Ensured held =
-    (κs : K) (args : A κs) (r s : R κs) (exit exit′ : E κs) → Ensured κs args r exit → Ensured κs args s exit′
-    → held κs r ≡ held κs s
+-- The result is a part of the row.
 
 pub fan-ins-unique : OneContent fan-ins.Learnt (λ κs r. now r)
 fan-ins-unique κs args r s exit exit′ p q = same p q

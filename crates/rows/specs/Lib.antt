@@ -3,4 +3,5 @@ pub mod Row
 pub mod Spelling
 pub mod Read
 pub mod Says
+pub mod Exactly
 pub mod steps

@@ -1,9 +1,9 @@
--- No second outcome meets a contract of `selection`. Each statement is about the contract itself: `Learnt` is what the
--- function's `ensures` says of the arguments, the result and the parameters at exit.
+-- [T4] No second outcome meets a contract of `selection`.
 use mathlib.Core.Path.{refl, ap}
 use denote.Ref.{now}
 use Rattle.units.specs.Units.{ticks}
-use Rattle.frames.proofs.Unique.{OneOutcome, same}
+use Rattle.units.specs.Outcome.{OneOutcome}
+use Rattle.units.proofs.Unique.{same}
 use Rattle.selection.proofs.output_delay.Reads as output-delay
 use Rattle.selection.proofs.count_marked.Reads as count-marked
 use Rattle.selection.proofs.nth_marked.Reads as nth-marked

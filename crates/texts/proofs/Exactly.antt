@@ -1,20 +1,11 @@
--- "Given exactly when", of an answer as a whole.
+-- Laws of specs/Exactly.antt.
 use Prim.Native.Nat.{ℕ}
 use mathlib.Core.Path.{_≡_}
-use mathlib.Core.Logic.{_↔_}
 use native.Mathlib.Omega.{arith}
 use Rattle.model.specs.Network.{Network}
 use Rattle.frames.specs.declared.Refusal.{Refusal}
 use Rattle.texts.specs.Reading.{Reading, refused, network}
-
--- The answer r is a refusal exactly when that one is said, a network exactly when that one is read, and some network exactly
--- when nothing is said. No two refusals are said, and no two networks read.
-pub record Exactly (Say : Refusal → Type 0) (Read : Network → Type 0) (r : Reading) : Type 0 where
-  pub refusal : (f : Refusal) → (r ≡ refused f) ↔ Say f
-  pub whole : (n : Network) → (r ≡ network n) ↔ Read n
-  pub nothing : ((n : Network) × (r ≡ network n)) ↔ ((f : Refusal) → Say f → ⊥)
-  pub said-once : (f g : Refusal) → Say f → Say g → f ≡ g
-  pub read-once : (n m : Network) → Read n → Read m → n ≡ m
+use Rattle.texts.specs.Exactly.{Exactly}
 
 -- a refusal is said, or a network read
 pub data Some (Say : Refusal → Type 0) (Read : Network → Type 0) : Type 0 where

@@ -1,5 +1,5 @@
--- Laws of specs/Says.antt: reading a text answers a refusal exactly when the table says it, and a network exactly
--- when the table says nothing.
+-- [O6] `ReadingExactly` of specs/Exactly.antt: reading a text answers a refusal exactly when the table says it, and a network
+-- exactly when the table says nothing.
 -- After faultless lines the walk stands where `Before` says, so what the table says of the next line, of the end or of the
 -- weights is what reading answers there. And of every text it says something or a network is read: follow the lines until
 -- one is faulty or none is left, then look at the place and at the weights. An answer is never two answers, so each is told
@@ -22,7 +22,8 @@ use Rattle.frames.specs.declared.Refusal.{Refusal}
 use Rattle.frames.specs.Refusal.{at-line, at-no-line}
 use Rattle.texts.specs.Reading.{refused, network, most-text, nothing-read, take-in, at-the-end, unless, walk, first-heavy, told-heavy, weigh, reading}
 use Rattle.texts.specs.Says.{Before, first, after, Says, too-long, faulty-line, no-end, too-heavy, Reads}
-use Rattle.texts.proofs.Exactly.{Exactly, Some, said, read, exactly}
+use Rattle.texts.specs.Exactly.{ReadingExactly}
+use Rattle.texts.proofs.Exactly.{Some, said, read, exactly}
 use Rattle.texts.proofs.Heavy.{heavy-told, heavy-none}
 
 -- the walk, line by line
@@ -130,7 +131,6 @@ says-or-reads text =
       | no h ↦ said (too-long (omega arith))
     ]
 
--- Reading answers a refusal exactly when the table says it, and a network exactly when the table says nothing.
-pub reading-exactly : (text : List ℕ) → Exactly (Says text) (Reads text) (reading text)
+pub reading-exactly : ReadingExactly
 reading-exactly text =
     exactly (Says text) (Reads text) (reading text) (refused-says text) (network-reads text) (says-or-reads text)

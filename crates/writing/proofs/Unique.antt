@@ -1,7 +1,7 @@
--- No second outcome meets a contract of `writing`. The statement is about the contract itself: `Learnt` is what the function's
--- `ensures` says of the arguments, the result and the parameters at exit.
+-- [T4] No second outcome meets a contract of `writing`.
 use denote.Ref.{now}
-use Rattle.frames.proofs.Unique.{OneOutcome, same}
+use Rattle.units.specs.Outcome.{OneOutcome}
+use Rattle.units.proofs.Unique.{same}
 use Rattle.writing.proofs.write_line.Reads as write-line
 
 -- The row that is written is the last of four parameters; the network's is lent to be read.
