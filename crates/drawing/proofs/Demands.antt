@@ -52,6 +52,8 @@ use Rattle.results.proofs.Lengths.{keep-shorter, length-upto, members-few, line
 use Rattle.drawing.specs.Answer.{answer-lines, lines-told, network-result}
 use Rattle.drawing.specs.Demands.{most-line, Finished, Faithful, WellFormedText, Optimal}
 
+-- what the model says of an accepted network
+
 module _ (text : List ℕ) (n : Network) (e : reading text ≡ network n) where
   none-heavy : SomeHeavy n → ⊥
   none-heavy (v, h) = accepted-not-heavy text n e v h

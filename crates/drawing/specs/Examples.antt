@@ -1,4 +1,4 @@
--- The worked rows P1 to P13, from text to frames: each text typed digit by digit, and the lines that it answers as they are printed.
+-- The worked rows P1 to P13: each text typed digit by digit, and the lines that it answers as they are printed.
 use Prim.Native.Nat.{ℕ}
 use Prim.Native.String.{String}
 use mathlib.Core.Path.{_≡_}
