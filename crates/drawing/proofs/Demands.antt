@@ -11,14 +11,18 @@ use borrow.Author.Tests.{leb-true}
 use lib.Dec.{leb, ltb}
 use Rattle.model.specs.Basics.{upto, member}
 use Rattle.model.specs.Ceilings.{most-gates}
-use Rattle.model.specs.Network.{Network, size, WellFormed}
+use Rattle.model.specs.Network.{Network, size, position, WellFormed}
 use Rattle.model.specs.Label.{labels, label, cluster}
 use Rattle.model.specs.Drawing.{marks, drawn, members, output-delay}
-use Rattle.model.specs.Best.{SomeHeavy}
+use Rattle.model.specs.Best.{SomeHeavy, Best, LeastDelay}
 use Rattle.model.proofs.Best.{best, least-delay}
 use Rattle.model.proofs.Lists.{in-keep, keep-in, in-upto, member-true, true-member}
+use Rattle.model.proofs.Paths.{path-rises}
+use Rattle.model.proofs.Onward.{in-cone-true, true-in-cone, onward-largest}
 use Rattle.model.proofs.Label.{label-input, label-largest}
-use Rattle.model.proofs.Growth.{grows}
+use Rattle.model.proofs.Growth.{grows, in-cone-gates, cone-gates-in}
+use Rattle.model.proofs.Ceiling.{label-ceiling}
+use Rattle.model.proofs.Drawing.{reaches-inside}
 use Rattle.model.proofs.UpperBound.{member-known, member-position}
 use Rattle.model.proofs.Drawn.{drawn-is}
 use Rattle.model.proofs.CopyDelay.{output-delay-is}
@@ -37,7 +41,7 @@ use Rattle.texts.proofs.Heavy.{heavy-told, heavy-none}
 use Rattle.texts.proofs.GateLines.{line-count}
 use Rattle.frames.proofs.Digits.{length-word-bytes}
 use Rattle.texts.proofs.Accepted.{walked}
-use Rattle.texts.proofs.AcceptedNetwork.{fit-well-formed, accepted-well-formed, accepted-within-ceilings, accepted-not-heavy}
+use Rattle.texts.proofs.AcceptedNetwork.{fit-well-formed, accepted-well-formed, accepted-network, accepted-within-ceilings, accepted-not-heavy}
 use Rattle.rows.specs.Says.{SaysRoom, of-text, short-row}
 use Rattle.rows.specs.Read.{answer, filled}
 use Rattle.rows.proofs.Room.{answer-exactly}
@@ -47,6 +51,18 @@ use Rattle.results.specs.Result.{result-lines, result-bytes, label-bytes, clust
 use Rattle.results.proofs.Lengths.{keep-shorter, length-upto, members-few, line-length, result-count}
 use Rattle.drawing.specs.Answer.{answer-lines, lines-told, network-result}
 use Rattle.drawing.specs.Demands.{most-line, Finished, Faithful, WellFormedText, Optimal}
+
+-- what the model says of an accepted network
+
+module _ (text : List ℕ) (n : Network) (e : reading text ≡ network n) where
+  none-heavy : SomeHeavy n → ⊥
+  none-heavy (v, h) = accepted-not-heavy text n e v h
+
+  accepted-best : Best n
+  accepted-best = best n (accepted-well-formed text n e)
+
+  accepted-least : LeastDelay n
+  accepted-least = least-delay n (accepted-well-formed text n e)
 
 -- Demand 3
 
@@ -73,7 +89,12 @@ module _ (text : List ℕ) (n : Network) (t : WellFormedText text n) where
 pub optimal : (text : List ℕ) → Optimal text
 optimal text =
     record {
-      best = λ n e. let wf = accepted-well-formed text n e in (best n wf, least-delay n wf);
+      light = λ n e v known. accepted-network text n e .light v;
+      legal = λ n e. accepted-best text n e .legal (none-heavy text n e);
+      exact = λ n e. accepted-best text n e .exact (none-heavy text n e);
+      unbeaten = λ n e. accepted-best text n e .unbeaten;
+      reached = λ n e. accepted-least text n e .reached (none-heavy text n e);
+      least = λ n e. accepted-least text n e .unbeaten;
       heavy =
           λ n t.
           let b = best n (well-formed text n t) in (
@@ -82,7 +103,7 @@ optimal text =
                 (told-or-light text n t)),
             λ none-legal.
                 ⊎-elim (λ h. (h .0, h .1))
-                (λ e. let h = b .heavy .1 none-legal in absurd (accepted-not-heavy text n e (h .0) (h .1)))
+                (λ e. absurd (none-heavy text n e (b .heavy .1 none-legal)))
                 (told-or-light text n t),
           );
     }
@@ -94,9 +115,20 @@ unfolding members answer-lines lines-told delay-from label output-delay
 faithful text n e =
     let wf = accepted-well-formed text n e in
     record {
+      cone = λ u v known. (in-cone-true n wf u v known, λ c. true-in-cone n wf known (c .1));
+      taken =
+          λ u v known. (
+            (λ m. let (c, b) = cone-gates-in n v u m in (in-cone-true n wf u v known c, λ q. omega (arith, ap (position n) q))),
+            λ (c, apart).
+                in-cone-gates n v u (true-in-cone n wf known (c .1))
+                (⊎-elim (λ q. absurd (apart q)) (λ b. b) (path-rises n wf (c .1))),
+          );
+      longest = onward-largest n wf;
       input-label = label-input n;
       gate-label = label-largest n;
+      ceiling = label-ceiling n wf (accepted-within-ceilings text n e);
       clusters = λ v. grows n (labels n) v;
+      reaches = reaches-inside n wf (none-heavy text n e);
       inside =
           λ r x known. (
             (λ m. member-true x (cluster n (labels n) r) (keep-in (λ y. member y (cluster n (labels n) r)) x (upto (size n)) m .1)),

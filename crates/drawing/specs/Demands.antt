@@ -1,4 +1,4 @@
--- The three demands, each a record with a field for each of its sentences.
+-- The three demands [T1] [T2] [T3], each a record with a field for each of its sentences.
 use Prim.Native.Nat.{ℕ, suc, _+_, _*_, _≤_, _<_}
 use mathlib.Core.Path.{_≡_}
 use mathlib.Core.Logic.{_⊎_, _↔_}
@@ -6,13 +6,13 @@ use mathlib.Core.Bool.{true, false}
 use mathlib.Core.List.{List, List·Memᴰ}
 use lib.ListN.{length}
 use Rattle.model.specs.Basics.{_∈_, Largest}
-use Rattle.model.specs.Ceilings.{most-gates}
-use Rattle.model.specs.Network.{Network, size, delay, input}
-use Rattle.model.specs.Clustering.{Clustering, Legal}
-use Rattle.model.specs.Label.{Counts, cluster, labels, label}
-use Rattle.model.specs.Growth.{Grows}
-use Rattle.model.specs.Drawing.{Drawn, drawn, members, OutputDelay}
-use Rattle.model.specs.Best.{Best, LeastDelay}
+use Rattle.model.specs.Ceilings.{most-gates, most-label}
+use Rattle.model.specs.Network.{Network, size, weight, delay, input}
+use Rattle.model.specs.Onward.{InCone, Onward, in-cone, onward}
+use Rattle.model.specs.Clustering.{Clustering, Legal, Delay, ClusteringDelay}
+use Rattle.model.specs.Label.{Counts, ReachesInside, cluster, labels, label}
+use Rattle.model.specs.Growth.{Grows, cone-gates}
+use Rattle.model.specs.Drawing.{Drawn, drawn, members, name, drawing, OutputDelay, output-delay}
 use Rattle.frames.specs.Text.{lines}
 use Rattle.frames.specs.declared.Place.the-variants.{Closed}
 use Rattle.frames.specs.declared.Refusal.{Refusal}
@@ -24,36 +24,52 @@ use Rattle.texts.specs.Spelling.{spell-network}
 use Rattle.selection.specs.Selection.{delay-from}
 use Rattle.drawing.specs.Answer.{answer-lines, network-result}
 
--- "the longest result line is 2,059 bytes"
+-- [B7] The longest result line: that of a cluster of 512 members.
 abbrev pub most-line : ℕ
 most-line = 2_059
 
--- Demand 1, of a text and the row lent for it.
+-- Demand 1 [T1], of a text and the row lent for it.
 pub record Finished (text row : List ℕ) : Type 0 where
-  -- "Every text gets a result or one numbered refusal with its line"
+  -- [F13] Every text gets a result or one refusal.
   pub told :
       ((n : Network) × (answer text row ≡ network n))
       ⊎ ((f : Refusal) × (answer text row ≡ refused f))
-  -- "within stated bounds": the number, the line, how many lines are written and how long each is
+  -- [O1] A refusal is its number and its line. The line past the last is that of a missing end [O4].
   pub number : (f : Refusal) → answer text row ≡ refused f → (1 ≤ f .number) × (f .number ≤ 10)
   pub line : (f : Refusal) → answer text row ≡ refused f → f .line ≤ suc (length (lines text))
+  -- [F12] At most a label line and a cluster line for each gate, a first line and a last; [B7] none of them too long.
   pub few : length (answer-lines text) ≤ 2 + 2 * most-gates
   pub short : (l : List ℕ) → List·Memᴰ l (answer-lines text) → length l ≤ most-line
-  -- "A refusal hands back number and line only; every lent row still holds what it held."
+  -- [R4] On a refusal the lent row has not changed.
   pub kept : (f : Refusal) → answer text row ≡ refused f → filled (answer text row) row ≡ row
 
--- Demand 2, of an accepted text and its network.
+-- Demand 2 [T2], of an accepted text and its network.
 pub record Faithful (text : List ℕ) (n : Network) : Type 1 where
-  -- "Labels, clusters and output delay are those of Rajaraman and Wong with document 01's ties"
+  -- [W5] The cone of v is exactly the gates with a path to v.
+  pub cone : (u v : ℕ) → v < size n → (in-cone n u v ≡ true) ↔ InCone n u v
+  -- [L2] Growth takes from the cone each gate but v.
+  pub taken : (u v : ℕ) → v < size n → (u ∈ cone-gates n v) ↔ (InCone n u v × (u ≡ v → ⊥))
+  -- [W6] The onward delay is the largest sum over paths.
+  pub longest : (u v : ℕ) → v < size n → InCone n u v → Onward n u v (onward n u v)
+  -- [L1] A primary input has its delay as label.
   pub input-label : (v : ℕ) → v < size n → input n v ≡ true → label n v ≡ delay n v
+  -- [L5] Another gate has the largest pull of an input inside, or that of the stopping gate and D, whichever is larger.
   pub gate-label : (v : ℕ) → v < size n → input n v ≡ false → Largest (Counts n (labels n) v) (label n v)
+  -- [B6] No label exceeds the ceiling.
+  pub ceiling : (v : ℕ) → v < size n → label n v ≤ most-label
+  -- [L3] [L4] Gates join by pull, of equal pulls the larger number first, and growth stops at the first that would overfill.
   pub clusters : (v : ℕ) → Grows n (labels n) v
+  -- [L6] Every member reaches its root inside the cluster.
+  pub reaches : (r x : ℕ) → r < size n → x ∈ cluster n (labels n) r → ReachesInside n (cluster n (labels n) r) r x
+  -- [F8] The members that a frame names are those of the cluster.
   pub inside : (r x : ℕ) → r < size n → (x ∈ members n (labels n) r) ↔ (x ∈ cluster n (labels n) r)
+  -- [S1] [S2] [S3] The least set that has the outputs and with each root the inputs of its cluster is drawn.
   pub selection : Drawn n (labels n) (drawn n (labels n))
+  -- [S5] The output delay is the largest label of an output.
   pub output : OutputDelay n (delay-from n (labels n))
-  -- "the frames are exactly the ones the rules give"
+  -- [F12] The frames are exactly the ones that the rules give.
   pub frames : answer-lines text ≡ network-result n
-  -- "a network read and written again is its own text"
+  -- [F14] A network read and written again is its own text.
   pub again : spell-network n ≡ text
 
 -- A text without fault up to its end, heavy gates or not.
@@ -61,11 +77,27 @@ pub record WellFormedText (text : List ℕ) (n : Network) : Type 0 where
   pub fits : length text ≤ most-text
   pub whole : Before (lines text) Closed n
 
--- Demand 3, of a text.
+-- Demand 3 [T3], of a text: what is drawn of the network that it spells, if it is accepted.
 pub record Optimal (text : List ℕ) : Type 0 where
-  -- the drawn clustering is legal, exact and unbeaten, and its delay is the least
-  pub best : (n : Network) → reading text ≡ network n → Best n × LeastDelay n
-  -- "A well-formed text is refused for a heavy gate exactly when no legal clustering exists."
+  -- [N9] No gate of an accepted network is heavier than M.
+  pub light : (n : Network) → reading text ≡ network n → (v : ℕ) → v < size n → weight n v ≤ n .capacity
+  -- The drawn clustering is legal.
+  pub legal : (n : Network) → reading text ≡ network n → Legal n (drawing n)
+  -- The root of each drawn cluster has exactly its label as delay.
+  pub exact :
+      (n : Network) → reading text ≡ network n
+      → (r : ℕ) → r ∈ drawn n (labels n) → Delay n (drawing n) (name n r r) (label n r)
+  -- In no legal clustering, with as many copies as anyone likes, has any copy a smaller delay than its gate's label.
+  pub unbeaten :
+      (n : Network) → reading text ≡ network n
+      → (k : Clustering) → Legal n k → (c d : ℕ) → c ∈ k .copies → Delay n k c d → label n (k .gate-of c) ≤ d
+  -- The output delay is the delay of the drawn clustering,
+  pub reached : (n : Network) → reading text ≡ network n → ClusteringDelay n (drawing n) (output-delay n)
+  -- and the least: no legal clustering has a smaller one.
+  pub least :
+      (n : Network) → reading text ≡ network n
+      → (k : Clustering) → Legal n k → (d : ℕ) → ClusteringDelay n k d → output-delay n ≤ d
+  -- A text without fault is refused for a heavy gate exactly when no legal clustering exists.
   pub heavy :
       (n : Network) → WellFormedText text n
       → ((at : ℕ) × (reading text ≡ refused (at-line 9 at))) ↔ ((k : Clustering) → Legal n k → ⊥)

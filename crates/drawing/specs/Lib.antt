@@ -3,4 +3,5 @@ pub mod Answer
 pub mod Demands
 pub mod Prepared
 pub mod Headline
+pub mod Examples
 pub mod steps

@@ -9,7 +9,7 @@ use Rattle.frames.specs.declared.Place.{Place}
 use Rattle.frames.specs.declared.Place.the-variants.{Opening, AfterGates, Closed}
 use Rattle.frames.specs.Text.{Line}
 use Rattle.frames.specs.Table.{fault}
-use Rattle.frames.proofs.Typed.{typed}
+use Rattle.frames.specs.Typed.{typed}
 
 -- a line, its place, its number if it has one
 infix 68 _at_gives_

@@ -2,7 +2,6 @@
 -- digits and numbers, and what the puts write.
 pub mod Tests
 pub mod Fault
-pub mod Typed
 mod Cases
 pub mod Numbers
 pub mod Walks

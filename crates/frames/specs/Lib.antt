@@ -5,5 +5,6 @@ pub mod Table
 pub mod Fault
 pub mod Frames
 pub mod Digits
+pub mod Typed
 pub mod Put
 pub mod steps

@@ -1,4 +1,4 @@
--- Demand 3: the drawn clustering is legal and best, and there is none exactly when some gate is heavier than M.
+-- [T3] The drawn clustering is legal and best, and there is none exactly when some gate is heavier than M.
 use Prim.Native.Nat.{ℕ, zero, suc, _≤_, _<_}
 use mathlib.Core.Path.{_≡_, refl, sym, ap, subst}
 use mathlib.Core.Logic.{_⊎_, inl, inr, ⊎-elim}

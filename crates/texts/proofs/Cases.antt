@@ -5,7 +5,7 @@ use mathlib.Core.Path.{_≡_, refl}
 use mathlib.Core.List.{List, [], _∷_, _++_, map}
 use lib.ListN.{replicate}
 use Rattle.model.specs.Network.{Gate, Network}
-use Rattle.frames.proofs.Typed.{typed}
+use Rattle.frames.specs.Typed.{typed}
 use Rattle.frames.specs.Refusal.{at-line}
 use Rattle.texts.specs.Reading.{Reading, refused, network, reading}
 
