@@ -13,26 +13,11 @@ use Rattle.results.specs.Result.{refusal-bytes}
 use Rattle.results.specs.Block.{fitting, run-answer, lines-answer}
 use Rattle.drawing.specs.Answer.{answer-lines}
 use Rattle.drawing.specs.Prepared.{Lent, tell-lines-answer}
-use Rattle.drawing.specs.Examples.{A, Worked}
+use Rattle.drawing.specs.Examples.{row, A, rows, Worked}
 
 pub worked : Worked
-unfolding answer-lines A typed
-worked =
-    record {
-      P1 = refl;
-      P2 = refl;
-      P3 = refl;
-      P4 = refl;
-      P5 = refl;
-      P6 = refl;
-      P7 = refl;
-      P8 = refl;
-      P9 = refl;
-      P10 = refl;
-      P11 = refl;
-      P12 = refl;
-      P13 = refl;
-    }
+unfolding answer-lines rows row A typed
+worked = refl
 
 -- The blocks of P1, whose ten lines have 15 bytes each, but the last three 19, 23 and 7: two lines in 40 places, none in 14,
 -- the last two in 30 and not in 29, and none past the last.
