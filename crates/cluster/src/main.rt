@@ -3,10 +3,14 @@
 use results::block::Block;
 use rows::Read;
 use units::GateNumber;
-ghost use Prim.Native.Nat.{_+_, _*_, _-_, _≤_};
+ghost use Prim.Native.Nat.{_<_};
+ghost use mathlib.Core.Path.{_≡_};
 ghost use lib.ListN.{length};
-ghost use Rattle.model.specs.Ceilings.{most-gates};
-ghost use Rattle.drawing.specs.Demands.{most-line};
+ghost use Rattle.io.specs.Counts.{Counts};
+ghost use Rattle.texts.specs.Reading.{most-text};
+ghost use Rattle.drawing.specs.Answer.{answer-lines};
+ghost use Rattle.drawing.specs.Prepared.{lent-of};
+ghost use Rattle.cluster.specs.Printing.{Prepared, Unprinted, Stands, Prints, ToldPrinted, BlockPrinted, AllPrinted};
 
 // One byte more than a text may have, so that a longer one is seen to be longer.
 const TEXT: usize = frames::MOST_TEXT + 1;
@@ -15,53 +19,84 @@ const TEXT: usize = frames::MOST_TEXT + 1;
 // once a block.
 const BLOCK: usize = 8_192;
 
-// The first bytes of a block printed; whether they are. A block has room for the longest line, so that telling one is never
-// refused for want of room.
-fn show(out: &[u8], bytes: usize) -> bool
-    requires { ⌜ (bytes ≤ length (now out)) × (most-line ≤ length (now out)) ⌝ }
-{
-    io::write_all(1, &out[..bytes])
+// What was printed: so many lines; or standard output took no more.
+enum Printed {
+    Lines(usize),
+    Failed,
 }
 
-// The lines from that index on that have room in a block, printed; how many, 0 past the last line and where they cannot be
-// printed. A result has at most one line, a label a gate, a cluster a gate and one more.
-fn print_block(prepared: Read, index: usize, row: &[u16], labels: &[u32], marks: &[u8]) -> usize
-    ensures { λ r. ⌜ r ≤ 2 + 2 * most-gates - index ⌝ }
+// A block printed, as it was told; how many lines.
+fn show(told: Block, out: &[u8]) -> Printed
+    requires { ⌜ Stands told (now out) ⌝ }
+    ensures { λ r. ⌜ ToldPrinted told r ⌝ }
+{
+    let Block::Lines { count, length } = told else {
+        return Printed::Failed;
+    };
+    if !io::write_all(1, &out[..length]) {
+        return Printed::Failed;
+    }
+    Printed::Lines(count)
+}
+
+// The lines from that index on that have room in the row, printed; how many, 0 only past the last line.
+fn print_block(
+    prepared: Read,
+    index: usize,
+    row: &[u16],
+    labels: &[u32],
+    marks: &[u8],
+    out: &mut [u8],
+) -> Printed
+    requires { ⌜ Unprinted (length (now out)) prepared (lent-of (now row) (now labels) (now marks)) index ⌝ }
+    ensures { λ r. ⌜ BlockPrinted (length (now (out .entry))) prepared (lent-of (now (row .entry)) (now (labels .entry)) (now (marks .entry))) index r ⌝ }
+{
+    let told = drawing::tell_lines(prepared, index, row, labels, marks, out);
+    show(told, out)
+}
+
+// Every line printed, from the first to the last; how many.
+fn print(prepared: Read, row: &[u16], labels: &[u32], marks: &[u8]) -> Printed
+    requires { ⌜ Prepared prepared (lent-of (now row) (now labels) (now marks)) ⌝ }
+    ensures { λ r. ⌜ AllPrinted prepared (lent-of (now (row .entry)) (now (labels .entry)) (now (marks .entry))) r ⌝ }
 {
     let mut out = [0; BLOCK];
-    let told = drawing::tell_lines(prepared, index, row, labels, marks, &mut out);
-    let Block::Lines { count, length } = told else {
-        return 0;
-    };
-    if !show(&out, length) {
-        return 0;
-    }
-    count
-}
-
-// Every line printed, from the first to the last.
-fn print(prepared: Read, row: &[u16], labels: &[u32], marks: &[u8]) {
     let mut index = 0;
     loop {
-        let count = print_block(prepared, index, row, labels, marks);
+        let printed = print_block(prepared, index, row, labels, marks, &mut out);
+        let Printed::Lines(count) = printed else {
+            return Printed::Failed;
+        };
         if count == 0 {
-            break;
+            return Printed::Lines(index);
         }
         index += count;
     }
 }
 
-// The answer to a text, printed.
-fn answer(text: &[u8]) {
+// The answer to a text, printed; how many lines.
+fn answer(text: &[u8]) -> Printed
+    ensures { λ r. ⌜ Prints (length (answer-lines (now (text .entry)))) r ⌝ }
+{
     let mut row = [0u16; rows::PLACES * GateNumber::MOST_GATES];
     let mut labels = [0u32; GateNumber::MOST_GATES];
     let mut marks = [0u8; GateNumber::MOST_GATES];
     let prepared = drawing::prepare(text, &mut row, &mut labels, &mut marks);
-    print(prepared, &row, &labels, &marks);
+    print(prepared, &row, &labels, &marks)
+}
+
+// Standard input, as far as the row has room; how many bytes. A full row has more than a text may have, so that what is left
+// unread changes no answer.
+fn read_text(text: &mut [u8]) -> usize
+    requires { ⌜ most-text < length (now text) ⌝ }
+    ensures { λ r. ⌜ Counts r (now (text .exit)) ⌝ }
+    ensures { λ r. ⌜ (r ≡ length (now (text .exit)) → most-text < r) ⌝ }
+{
+    io::read_full(0, text)
 }
 
 fn main() {
     let mut text = [0u8; TEXT];
-    let length = io::read_full(0, &mut text);
+    let length = read_text(&mut text);
     answer(&text[..length]);
 }
