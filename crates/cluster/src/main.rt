@@ -1,5 +1,10 @@
 // Reads one network's text from standard input and prints its result, or the one frame of its refusal, a block of lines at a
 // time. What every text answers is decided in the crates below; here is the reading, the printing and the room for both.
+//
+// Proved here: no text finds a row too short [B9], one that is too long is never taken for a shorter one [N1], and the blocks
+// are, one behind the other, all the lines that the text answers. No contract can say what C's `read` and `write` do: that
+// every block is handed to `show`, and by it to standard output, and that `main` answers the bytes that were read, is seen in
+// `print_block`, `show` and `main`.
 use results::block::Block;
 use rows::Read;
 use units::GateNumber;
@@ -10,36 +15,35 @@ ghost use Rattle.io.specs.Counts.{Counts};
 ghost use Rattle.texts.specs.Reading.{most-text};
 ghost use Rattle.drawing.specs.Answer.{answer-lines};
 ghost use Rattle.drawing.specs.Prepared.{lent-of};
-ghost use Rattle.cluster.specs.Printing.{Prepared, Unprinted, Stands, Prints, ToldPrinted, BlockPrinted, AllPrinted};
+ghost use Rattle.cluster.specs.Printing.{Prepared, Unprinted, BlockBytes, Prints, BlockPrinted, AllPrinted};
 
-// One byte more than a text may have, so that a longer one is seen to be longer.
+// [B5] One byte more than a text may have, so that a longer one is seen to be longer.
 const TEXT: usize = frames::MOST_TEXT + 1;
 
-// A block of lines. The longest line has 2,059 bytes, so that a block has a line wherever one is left; the row is looked at
-// once a block.
+// A block of lines. [B7] The longest line has 2,059 bytes, so that a block has a line wherever one is left; the network's row
+// is looked at once a block.
 const BLOCK: usize = 8_192;
 
-// What was printed: so many lines; or standard output took no more.
+// How many lines were printed; or that a write failed.
 enum Printed {
     Lines(usize),
     Failed,
 }
 
-// A block printed, as it was told; how many lines.
-fn show(told: Block, out: &[u8]) -> Printed
-    requires { ⌜ Stands told (now out) ⌝ }
-    ensures { λ r. ⌜ ToldPrinted told r ⌝ }
+// The bytes of a block of so many lines, printed.
+fn show(bytes: &[u8], count: usize) -> Printed
+    requires { ⌜ BlockBytes count (now bytes) ⌝ }
+    ensures { λ r. ⌜ Prints count r ⌝ }
 {
-    let Block::Lines { count, length } = told else {
-        return Printed::Failed;
-    };
-    if !io::write_all(1, &out[..length]) {
-        return Printed::Failed;
+    if io::write_all(1, bytes) {
+        Printed::Lines(count)
+    } else {
+        Printed::Failed
     }
-    Printed::Lines(count)
 }
 
-// The lines from that index on that have room in the row, printed; how many, 0 only past the last line.
+// [R7] The lines from that index on that have room in the last row, printed; how many, 0 only past the last line. That index
+// is the first line's that is not printed yet.
 fn print_block(
     prepared: Read,
     index: usize,
@@ -49,10 +53,14 @@ fn print_block(
     out: &mut [u8],
 ) -> Printed
     requires { ⌜ Unprinted (length (now out)) prepared (lent-of (now row) (now labels) (now marks)) index ⌝ }
-    ensures { λ r. ⌜ BlockPrinted (length (now (out .entry))) prepared (lent-of (now (row .entry)) (now (labels .entry)) (now (marks .entry))) index r ⌝ }
+    ensures { λ r. ⌜ BlockPrinted (length (now (out .entry))) prepared
+        (lent-of (now (row .entry)) (now (labels .entry)) (now (marks .entry))) index r ⌝ }
 {
     let told = drawing::tell_lines(prepared, index, row, labels, marks, out);
-    show(told, out)
+    let Block::Lines { count, length } = told else {
+        return Printed::Failed;
+    };
+    show(&out[..length], count)
 }
 
 // Every line printed, from the first to the last; how many.
@@ -74,7 +82,7 @@ fn print(prepared: Read, row: &[u16], labels: &[u32], marks: &[u8]) -> Printed
     }
 }
 
-// The answer to a text, printed; how many lines.
+// The answer to a text, printed; how many lines. [B9] The rows suffice for every text.
 fn answer(text: &[u8]) -> Printed
     ensures { λ r. ⌜ Prints (length (answer-lines (now (text .entry)))) r ⌝ }
 {
@@ -85,8 +93,8 @@ fn answer(text: &[u8]) -> Printed
     print(prepared, &row, &labels, &marks)
 }
 
-// Standard input, as far as the row has room; how many bytes. A full row has more than a text may have, so that what is left
-// unread changes no answer.
+// Standard input, as far as the row has room; how many bytes. [N1] A text that fills the row is too long, whatever is left
+// unread of it.
 fn read_text(text: &mut [u8]) -> usize
     requires { ⌜ most-text < length (now text) ⌝ }
     ensures { λ r. ⌜ Counts r (now (text .exit)) ⌝ }

@@ -1,4 +1,4 @@
--- `cluster::answer` meets its contract: its rows suffice for every text, and what `prepare` ensures of them is what `print` requires.
+-- `cluster::answer` meets its contract: its rows suffice for every text.
 use native.Mathlib.Omega.{arith}
 use borrow.Author.Needs.{needs}
 use Rattle.cluster.proofs.Blocks.{prepared-of}

@@ -1,12 +1,11 @@
--- `cluster::print` meets its contract: every block begins where the one before it ends, and only past the last line has a block
--- no line.
-use Prim.Native.Nat.{ℕ, _-_}
+-- `cluster::print` meets its contract: each block begins behind the one before it, and the loop ends behind the last line.
+use Prim.Native.Nat.{_+_, _*_, _-_}
 use mathlib.Core.Path.{_≡_, refl, ap}
 use mathlib.Core.Logic.{inl, inr}
-use mathlib.Core.List.{List}
 use native.Mathlib.Omega.{arith}
 use lib.ListN.{length}
 use borrow.Author.Needs.{needs}
+use Rattle.model.specs.Ceilings.{most-gates}
 use Rattle.drawing.specs.Prepared.{lent-of}
 use Rattle.cluster.specs.Printing.{Prepared, Begins, first}
 use Rattle.cluster.specs.declared.Printed.the-variants.{Lines}
@@ -16,10 +15,11 @@ use Rattle.cluster.proofs.print.Tie as tie
 
 abbrev Inv-loop : tie.InvT-loop
 Inv-loop prepared row labels marks out₀ index₀ out index =
-    (length out ≡ length out₀) × ((t : Prepared prepared (lent-of row labels marks)) → Begins (length out₀) (t .text) index)
+    (length out ≡ length out₀)
+    × ((t : Prepared prepared (lent-of row labels marks)) → Begins (length out₀) (t .text) index)
 
 abbrev μ-loop : tie.MeasureT-loop
-μ-loop prepared row labels marks out₀ index₀ out index = 1_026 - index
+μ-loop prepared row labels marks out₀ index₀ out index = 2 + 2 * most-gates - index
 
 loop-holds : tie.Need-loop-holds Inv-loop μ-loop
 loop-holds c = (refl, λ t. first)
@@ -56,10 +56,12 @@ loop-again c =
     (omega arith, λ t. goes-on t (loop .inv .1 t) (loop .inv .0) printed)
 
 add-index : tie.Need-add-index Inv-loop μ-loop
-add-index c = omega (arith, begins-few (loop-again c .1 (c .before .before .before .before .before .before .before .before .before .before .before .pre)))
+add-index c =
+    let t = c .before .before .before .before .before .before .before .before .before .before .before .pre in omega (arith, begins-few (loop-again c .1 t))
 
 loop-less : tie.Need-loop-less Inv-loop μ-loop
-loop-less c = omega (arith, begins-few (loop-again c .1 (c .before .before .before .before .before .before .before .before .before .before .before .pre)))
+loop-less c =
+    let t = c .before .before .before .before .before .before .before .before .before .before .before .pre in omega (arith, begins-few (loop-again c .1 t))
 
 pub print-spec : {M : Type 1} → statement M
 print-spec =
