@@ -1,0 +1,2 @@
+-- What the program prints, and where.
+pub mod Printing
