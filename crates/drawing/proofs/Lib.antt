@@ -4,3 +4,4 @@ pub mod SameLabels
 pub mod Preparing
 pub mod Headline
 pub mod Unique
+pub mod Rooms

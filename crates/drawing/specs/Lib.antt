@@ -3,4 +3,5 @@ pub mod Answer
 pub mod Demands
 pub mod Prepared
 pub mod Headline
+pub mod Rooms
 pub mod steps
