@@ -1,6 +1,6 @@
 -- The lent rows of every network are modest, whether a text is accepted for it or not.
 use Prim.Native.Nat.{ℕ, _+_, _*_, _≤_}
-use mathlib.Core.Path.{_≡_, refl, ap}
+use mathlib.Core.Path.{_≡_, ap}
 use mathlib.Core.Logic.{⊎-elim}
 use mathlib.Core.List.{List, _++_, map, List·Memᴰ, List·Memᴰ·head, List·Memᴰ·tail, List·Memᴰ·cases-cons, List·Memᴰ·append-cases, List·Memᴰ·eq-of-singleton, Memᴰ·map, Memᴰ·of-map}
 use native.Mathlib.Omega.{arith}
@@ -100,8 +100,11 @@ modest n =
           λ labels other long also. rw (le-ltb (length labels) (size n) (omega arith), le-ltb (length other) (size n) (omega arith));
       lent =
           λ l row labels marks.
-          rw (le-ltb (length (l .row)) (places * size n) (omega arith), le-ltb (length (l .labels)) (size n) (omega arith),
-          le-ltb (length (l .marks)) (size n) (omega arith));
+          rw (
+            le-ltb (length (l .row)) (places * size n) (omega arith),
+            le-ltb (length (l .labels)) (size n) (omega arith),
+            le-ltb (length (l .marks)) (size n) (omega arith),
+          );
       text-line = λ h row e l m. omega (arith, text-line-short h row l m, ap (λ (k : Network). fan-in-count (k .gates)) e);
       result-line = λ labels roots l m. omega (arith, result-line-short n labels roots l m);
       refusal-line = λ f l m. omega (arith, refusal-line-short f l m);

@@ -3,5 +3,6 @@ pub mod Answer
 pub mod Demands
 pub mod Prepared
 pub mod Headline
+pub mod Worthless
 pub mod Rooms
 pub mod steps
