@@ -138,7 +138,7 @@ unfoldable pub first-labelled : Reading → Lent → Lent
 first-labelled (refused f) l = l
 first-labelled (network n) l = lent-of (l .row) (set (l .labels) 0 (label n 0)) (l .marks)
 
--- every text is answered by 10, and no line is written; the rows are left so
+-- Every text is answered by 10 and no line is written; `leaves` says how the rows are left.
 unfoldable pub idle : (Reading → Lent → Lent) → Build
 idle leaves =
     record {
