@@ -43,13 +43,14 @@ pub record Accepted (text : List ℕ) (l : Lent) (n : Network) : Type 0 where
 abbrev pub RefusesAll : Build → Type 0
 RefusesAll b = (text : List ℕ) (l : Lent) (n : Network) → Accepted text l n → (f : Refusal) × (b .prepared text l ≡ Refused f)
 
--- It prints one fixed result, by lines or by blocks: what it writes of a text, at an index and into a row, it writes of every other.
+-- What it writes of a text, at an index and into a row, it writes of every other.
 abbrev pub WritesAlike : Build → (Read → ℕ → Lent → List ℕ → List ℕ) → Type 0
 WritesAlike b writes =
     (text other : List ℕ) (l : Lent) (n m : Network) → Accepted text l n → Accepted other l m
     → (index : ℕ) (out : List ℕ)
     → writes (b .prepared text l) index (b .rows text l) out ≡ writes (b .prepared other l) index (b .rows other l) out
 
+-- It prints one fixed result, by lines or by blocks.
 abbrev pub FixedResult : Build → Type 0
 FixedResult b = WritesAlike b (b .line) ⊎ WritesAlike b (b .lines)
 
