@@ -4,3 +4,5 @@ pub mod SameLabels
 pub mod Preparing
 pub mod Headline
 pub mod Unique
+pub mod Worthless
+pub mod Rooms
