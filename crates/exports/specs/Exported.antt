@@ -23,11 +23,11 @@ header-from capacity hop gates = record { capacity = cells capacity; hop = ticks
 abbrev pub refused : Refusal → Answer
 refused f = record { number = f .number; line = f .line; length = 0 }
 
--- No refusal has the number 0: it stands for none.
+-- Refusals are numbered from 1 (`label-told-0` in proofs/Zero.antt), so that 0 stands for none.
 abbrev pub done : ℕ → Answer
 done length = record { number = 0; line = 0; length = length }
 
--- labels written are no line, and have no length
+-- Labels written are no line, and have no length.
 unfoldable pub label-told : Labelled → Answer
 label-told Labelled.Done = done 0
 label-told (Labelled.Refused f) = refused f

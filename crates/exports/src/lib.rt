@@ -1,11 +1,12 @@
-// The library for programs in other languages. Numbers pass as themselves, a slice as a pointer and then its length, and an
-// answer comes back as a struct by value, laid out as C lays it out: the compiler exports no function that returns another
-// struct, and hands the struct over as C on x86-64 expects it, which `second/` reads back in Rust. For C:
+// The library for programs in other languages. Numbers pass as themselves, a slice as a pointer and then its length, and the
+// answer is a struct by value: the compiler exports a function that returns a struct only where it is `#[repr(C)]`, and hands
+// it over as C does on x86-64. The guides do not say the latter; every run of `second/` rests on it. A caller in C declares
 //
 //     struct lykophene_answer { uint8_t number; size_t line; size_t length; };
-//     struct lykophene_answer lykophene_label(uint32_t capacity, uint16_t hop, size_t gates, const uint16_t *row, size_t row_length,
-//                                             uint32_t *labels, size_t labels_length);
-//     struct lykophene_answer lykophene_line(const uint8_t *text, size_t text_length, size_t index, uint8_t *out, size_t out_length);
+//     struct lykophene_answer lykophene_label(uint32_t capacity, uint16_t hop, size_t gates,
+//         const uint16_t *row, size_t row_length, uint32_t *labels, size_t labels_length);
+//     struct lykophene_answer lykophene_line(const uint8_t *text, size_t text_length, size_t index,
+//         uint8_t *out, size_t out_length);
 ghost use mathlib.Core.Path.{_≡_};
 ghost use Rattle.exports.specs.Exported.{header-from, refused, done, LabelledOut, LineOut};
 use frames::Refusal;
@@ -16,7 +17,8 @@ use units::Cells;
 use units::GateNumber;
 use units::Ticks;
 
-// A refusal's number and line, and length 0; or number and line 0, for no refusal, and the length of the line written.
+// A refusal's number and line, and length 0; or number and line 0, for no refusal, and the length of the line written. The line
+// is as wide as that of a refusal, so that none is cut.
 #[repr(C)]
 pub struct Answer {
     pub number: u8,
@@ -44,7 +46,7 @@ fn done(length: usize) -> Answer
     }
 }
 
-// The labels of the network that stands in the row, eleven places a gate, one label a gate, in front of the lent row. No
+// [R1] The labels of the network that stands in the row, eleven places a gate, one label a gate, in front of the lent row. No
 // line is written: the length is 0.
 #[no_mangle]
 pub extern "C" fn lykophene_label(
@@ -68,7 +70,7 @@ pub extern "C" fn lykophene_label(
     }
 }
 
-// The line of that index, counted from 0, of what a text answers, in front of the lent row, and its length; past the last
+// [R6] The line of that index, counted from 0, of what a text answers, in front of the lent row, and its length; past the last
 // line length 0. A row too short for the line answers 10 and is left as it was.
 #[no_mangle]
 pub extern "C" fn lykophene_line(text: &[u8], index: usize, out: &mut [u8]) -> Answer
