@@ -5,10 +5,19 @@ use std::path::PathBuf;
 use std::process::{Command, Stdio};
 
 use crate::plain;
+use crate::rules::{Network, Refusal};
+#[cfg(feature = "staticlib")]
+use crate::{library, shapes::Owned};
 
 pub trait Answers {
     /// All that is printed in answer to a text.
     fn answer(&mut self, text: &[u8]) -> Vec<u8>;
+
+    /// The labels of a network in its row, put into a row of so many places, or its refusal; none from whoever takes
+    /// texts alone.
+    fn labels(&mut self, _network: &Network, _places: usize) -> Option<Result<Vec<u32>, Refusal>> {
+        None
+    }
 }
 
 /// The plain reading, to try the comparisons themselves.
@@ -17,6 +26,10 @@ pub struct Plain;
 impl Answers for Plain {
     fn answer(&mut self, text: &[u8]) -> Vec<u8> {
         plain::answer(text)
+    }
+
+    fn labels(&mut self, network: &Network, places: usize) -> Option<Result<Vec<u32>, Refusal>> {
+        Some(plain::labels(network, places))
     }
 }
 
@@ -52,13 +65,6 @@ pub struct Library {
 }
 
 #[cfg(feature = "staticlib")]
-extern "C" {
-    /// Puts the `index`-th line of the answer, its line feed included, into `out`; its length, 0 past
-    /// the last line.
-    fn lykophene_line(text: *const u8, text_len: usize, index: usize, out: *mut u8, out_len: usize) -> usize;
-}
-
-#[cfg(feature = "staticlib")]
 impl Library {
     /// A cluster of 512 members: 5 + 2 * 512 bytes, two digits each, and a line feed.
     const LONGEST_LINE: usize = 2_059;
@@ -69,12 +75,11 @@ impl Library {
         Library { line: [0; Library::LONGEST_LINE] }
     }
 
-    fn line(&mut self, text: &[u8], index: usize) -> &[u8] {
-        // SAFETY: both pointers go with the lengths of what they point to, and the two do not overlap.
-        let length = unsafe {
-            lykophene_line(text.as_ptr(), text.len(), index, self.line.as_mut_ptr(), self.line.len())
-        };
-        &self.line[..length]
+    /// Whether a row one byte too short for a line of this length is refused as it has to be, and left as it was.
+    fn refuses_short_row(&mut self, text: &[u8], index: usize, length: usize) -> bool {
+        let row = &mut self.line[..length - 1];
+        row.fill(0);
+        library::line(text, index, row) == Err(Refusal::NO_ROOM) && row.iter().all(|&byte| byte == 0)
     }
 }
 
@@ -89,14 +94,32 @@ impl Default for Library {
 impl Answers for Library {
     fn answer(&mut self, text: &[u8]) -> Vec<u8> {
         let mut answer = Vec::with_capacity(256);
+        let mut last = None;
         // One line more than there can be, so that a library that never ends is found out.
         for index in 0..=Library::MOST_LINES {
-            let line = self.line(text, index);
-            if line.is_empty() {
-                break;
+            match library::line(text, index, &mut self.line) {
+                Ok(0) => break,
+                Ok(length) => {
+                    answer.extend_from_slice(&self.line[..length]);
+                    last = Some((index, length));
+                }
+                Err(refusal) => {
+                    answer.extend_from_slice(format!("(with room for every line: {refusal:?})\n").as_bytes());
+                    break;
+                }
             }
-            answer.extend_from_slice(line);
+        }
+        if matches!(last, Some((index, length)) if !self.refuses_short_row(text, index, length)) {
+            answer.extend_from_slice(b"(no refusal of a row too short)\n");
         }
         answer
+    }
+
+    fn labels(&mut self, network: &Network, places: usize) -> Option<Result<Vec<u32>, Refusal>> {
+        let mut labels = vec![u32::MAX; places];
+        let answer = library::label(&Owned::of(network).in_row(), &mut labels);
+        let kept = labels.iter().all(|&label| label == u32::MAX);
+        assert!(answer.is_ok() || kept, "a refusal changed the row of labels of {network:?}");
+        Some(answer.map(|()| labels))
     }
 }

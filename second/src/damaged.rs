@@ -2,7 +2,7 @@
 //! of the table too; the others are piled on each other, and that reading says what is due.
 
 use crate::backends::Answers;
-use crate::judge::{judge, Verdict};
+use crate::judge::{judge, judge_row, Verdict};
 use crate::rng::Rng;
 use crate::rules::{self, Gate, Network, Refusal};
 use crate::tally::Tally;
@@ -13,13 +13,25 @@ pub fn run(backend: &mut dyn Answers, count: u64, seed: u64) -> Tally {
     let mut rng = Rng::new(seed);
     let mut tally = Tally::default();
     for index in 0..count {
-        let network = base(&mut rng);
-        if index % 3 == 0 {
-            let (text, refusal) = rng.pick(&KNOWN)(&mut rng, network);
-            let answer = backend.answer(&text);
-            tally.count(&text, &answer, foreseen(&text, &answer, refusal));
-        } else {
+        let mut network = base(&mut rng);
+        if index % 3 != 0 {
             tally.ask(backend, &piled(&mut rng, &network));
+            continue;
+        }
+        match rng.pick(&KNOWN) {
+            OfText(damage) => {
+                let (text, refusal) = damage(&mut rng, network);
+                let answer = backend.answer(&text);
+                tally.count(&text, &answer, foreseen(&text, &answer, refusal));
+            }
+            OfNetwork(damage) => {
+                let refusal = damage(&mut rng, &mut network);
+                let text = network.text();
+                let answer = backend.answer(&text);
+                let verdict =
+                    foreseen(&text, &answer, refusal).and_then(|due| judge_row(backend, &network, due));
+                tally.count(&text, &answer, verdict);
+            }
         }
     }
     tally
@@ -65,25 +77,32 @@ fn no_digit(rng: &mut Rng) -> u8 {
 
 // Damages with a refusal known beforehand.
 
-type Known = fn(&mut Rng, Network) -> (Vec<u8>, Refusal);
+enum Known {
+    OfText(fn(&mut Rng, Network) -> (Vec<u8>, Refusal)),
+    /// The network's row has it too.
+    OfNetwork(fn(&mut Rng, &mut Network) -> Refusal),
+}
 
-const KNOWN: [Known; 16] = [
-    too_long,
-    bad_digit,
-    digit_lost,
-    empty_line,
-    last_feed_lost,
-    carriage_return,
-    misplaced_type,
-    no_end,
-    after_the_end,
-    wrong_length,
-    nine_fanins,
-    gate_513,
-    fanins_fall,
-    wrong_count,
-    no_gates,
-    heavy_gate,
+use Known::{OfNetwork, OfText};
+
+const KNOWN: [Known; 17] = [
+    OfText(too_long),
+    OfText(bad_digit),
+    OfText(digit_lost),
+    OfText(empty_line),
+    OfText(last_feed_lost),
+    OfText(carriage_return),
+    OfText(misplaced_type),
+    OfText(no_end),
+    OfText(after_the_end),
+    OfText(wrong_length),
+    OfNetwork(nine_fanins),
+    OfNetwork(gate_513),
+    OfNetwork(fanins_fall),
+    OfText(wrong_count),
+    OfText(lost_gates),
+    OfNetwork(no_gates),
+    OfNetwork(heavy_gate),
 ];
 
 fn due(text: Lines, number: u8, line: usize) -> (Vec<u8>, Refusal) {
@@ -183,20 +202,20 @@ fn wrong_length(rng: &mut Rng, network: Network) -> (Vec<u8>, Refusal) {
 }
 
 /// More than 8 fan-ins in a gate that is otherwise in order.
-fn nine_fanins(rng: &mut Rng, mut network: Network) -> (Vec<u8>, Refusal) {
+fn nine_fanins(rng: &mut Rng, network: &mut Network) -> Refusal {
     let gate = rng.below(network.gates.len());
     let count = if rng.once_in(2) { 9 } else { rng.between(9, 255) as u16 };
     network.gates[gate].fanins = (0..count).collect();
-    due(vec![network.text()], 4, gate + 2)
+    Refusal { number: 4, line: gate + 2 }
 }
 
-fn gate_513(rng: &mut Rng, mut network: Network) -> (Vec<u8>, Refusal) {
+fn gate_513(rng: &mut Rng, network: &mut Network) -> Refusal {
     let gates = rng.between(513, 600);
     network.gates.resize_with(gates, Gate::default);
-    due(vec![network.text()], 5, 514)
+    Refusal { number: 5, line: 514 }
 }
 
-fn fanins_fall(rng: &mut Rng, mut network: Network) -> (Vec<u8>, Refusal) {
+fn fanins_fall(rng: &mut Rng, network: &mut Network) -> Refusal {
     let number = rng.below(network.gates.len());
     let fanins = &mut network.gates[number].fanins;
     match rng.below(3) {
@@ -214,7 +233,7 @@ fn fanins_fall(rng: &mut Rng, mut network: Network) -> (Vec<u8>, Refusal) {
             fanins.push(high as u16);
         }
     }
-    due(vec![network.text()], 6, number + 2)
+    Refusal { number: 6, line: number + 2 }
 }
 
 fn wrong_count(rng: &mut Rng, network: Network) -> (Vec<u8>, Refusal) {
@@ -230,18 +249,21 @@ fn wrong_count(rng: &mut Rng, network: Network) -> (Vec<u8>, Refusal) {
     due(text, 7, gates + 2)
 }
 
-fn no_gates(rng: &mut Rng, mut network: Network) -> (Vec<u8>, Refusal) {
+/// An end that counts gates, and none before it.
+fn lost_gates(rng: &mut Rng, mut network: Network) -> (Vec<u8>, Refusal) {
     network.gates.clear();
     let mut text = lines(&network.text());
-    if rng.once_in(2) {
-        return due(text, 8, 2);
-    }
     text[1] = frame(rules::END, &(rng.between(1, 65_535) as u16).to_be_bytes());
     due(text, 7, 2)
 }
 
+fn no_gates(_: &mut Rng, network: &mut Network) -> Refusal {
+    network.gates.clear();
+    Refusal { number: 8, line: 2 }
+}
+
 /// M below a gate and not below those before it.
-fn heavy_gate(rng: &mut Rng, mut network: Network) -> (Vec<u8>, Refusal) {
+fn heavy_gate(rng: &mut Rng, network: &mut Network) -> Refusal {
     let heavy = rng.below(network.gates.len());
     let weight = rng.between(1, 65_535);
     let capacity = if rng.once_in(2) { weight - 1 } else { rng.below(weight) };
@@ -250,7 +272,7 @@ fn heavy_gate(rng: &mut Rng, mut network: Network) -> (Vec<u8>, Refusal) {
     }
     network.gates[heavy].weight = weight as u16;
     network.capacity = capacity as u32;
-    due(vec![network.text()], 9, heavy + 2)
+    Refusal { number: 9, line: heavy + 2 }
 }
 
 // Damages that may do anything, one upon the other.

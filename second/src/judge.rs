@@ -1,6 +1,7 @@
 //! One text and one answer to it: right or wrong. The answer is held against the refusal table, the
 //! best delays, the definition of a legal clustering, and the plain labelling byte by byte.
 
+use crate::backends::Answers;
 use crate::best::{self, Best};
 use crate::printed::{self, Printed};
 use crate::rules::{self, Network, Refusal};
@@ -30,6 +31,25 @@ pub fn judge_network(network: &Network, answer: &[u8]) -> Verdict {
         return Err("the plain labelling prints another result".into());
     }
     Ok(None)
+}
+
+/// The same for a network that is handed over in its row, where its text's verdict is this: it is answered as its text is,
+/// and a row of labels with fewer places than gates is then refused too.
+pub fn judge_row(backend: &mut dyn Answers, network: &Network, due: Option<Refusal>) -> Verdict {
+    let gates = network.gates.len();
+    for places in [gates, gates.saturating_sub(1)] {
+        if let Some(answer) = backend.labels(network, places) {
+            let expected = match due {
+                Some(refusal) => Err(refusal),
+                None if places < gates => Err(Refusal::NO_ROOM),
+                None => plain::labels(network, places),
+            };
+            if answer != expected {
+                return Err(format!("in its row, for {places} places: {answer:?}, not {expected:?}"));
+            }
+        }
+    }
+    Ok(due)
 }
 
 fn refused(answer: &[u8], refusal: Refusal) -> Verdict {

@@ -6,7 +6,7 @@
 //! * `printed` and `legal` take a printed result apart and check it against the definitions.
 //! * `plain` answers by the document's own labelling, for comparison byte by byte.
 //! * `judge` puts these together: one text, one answer, right or wrong.
-//! * `exhaustive`, `random`, `damaged` and `table` make the texts; `backends` gets the answers.
+//! * `exhaustive`, `random`, `damaged` and `table` make the texts; `backends` gets the answers, from `library` if it is linked.
 //! * `steps`, `sorted` and `shapes` are the plain baselines that speed is measured against, `whole` times whole programs.
 
 pub mod backends;
@@ -16,6 +16,8 @@ pub mod exhaustive;
 pub mod hex;
 pub mod judge;
 pub mod legal;
+#[cfg(any(feature = "staticlib", feature = "bench"))]
+pub mod library;
 pub mod plain;
 pub mod printed;
 pub mod random;

@@ -1,7 +1,7 @@
 //! The rules of `docs/RULES.md` as they are written there, in plain code: pulls, order, growth, selection, frames.
 
 use crate::hex;
-use crate::rules::{self, Network};
+use crate::rules::{self, Network, Refusal};
 
 /// The whole answer to a text.
 pub fn answer(text: &[u8]) -> Vec<u8> {
@@ -43,6 +43,18 @@ fn line(text: &mut Vec<u8>, kind: usize, numbers: &[(usize, usize)]) {
         hex::push(text, number, width);
     }
     text.push(b'\n');
+}
+
+/// The labels of a network in its row, for a row of so many places: the network answers as its text does.
+pub fn labels(network: &Network, places: usize) -> Result<Vec<u32>, Refusal> {
+    let network = rules::read(&network.text())?;
+    if let Some(refusal) = network.too_heavy() {
+        return Err(refusal);
+    }
+    if places < network.gates.len() {
+        return Err(Refusal::NO_ROOM);
+    }
+    Ok(labelling(&network).labels.into_iter().map(|label| label as u32).collect())
 }
 
 pub struct Labelling {

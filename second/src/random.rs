@@ -1,6 +1,7 @@
 //! Random networks: many shapes, many ties, numbers at both ends of their ranges.
 
 use crate::backends::Answers;
+use crate::judge::{judge, judge_row};
 use crate::rng::Rng;
 use crate::rules::{Gate, Network, MOST_FANINS, MOST_GATES};
 use crate::tally::Tally;
@@ -16,7 +17,11 @@ pub fn run(backend: &mut dyn Answers, count: u64, large: u64, seed: u64) -> Tall
             let most = *rng.pick(&[6, 12, 24, 40]);
             rng.between(1, most)
         };
-        tally.ask(backend, &network(&mut rng, gates).text());
+        let network = network(&mut rng, gates);
+        let text = network.text();
+        let answer = backend.answer(&text);
+        let verdict = judge(&text, &answer).and_then(|due| judge_row(backend, &network, due));
+        tally.count(&text, &answer, verdict);
     }
     tally
 }

@@ -1,5 +1,5 @@
 //! Texts: how a network is spelled, and the refusal table, numbers 1 to 9. Number 10 speaks of lent
-//! rows, and a program has none.
+//! rows, which only the library has.
 
 use crate::hex;
 
@@ -34,6 +34,9 @@ pub struct Refusal {
 }
 
 impl Refusal {
+    /// A lent row is too short.
+    pub const NO_ROOM: Refusal = Refusal { number: 10, line: 0 };
+
     /// The whole answer to a refused text.
     pub fn answer(self) -> Vec<u8> {
         let mut text = Vec::new();

@@ -2,6 +2,8 @@
 
 use std::time::{Duration, Instant};
 
+#[cfg(feature = "bench")]
+use crate::library;
 use crate::rng::Rng;
 use crate::rules::{Gate, Network, MOST_FANINS, MOST_GATES};
 use crate::steps::{InRow, PLACES};
@@ -42,22 +44,23 @@ pub fn network(shape: Shape, gates: usize, capacity: u32) -> Network {
     network
 }
 
-/// A network in its row, as the baselines take it.
+/// A network in its row, as the baselines and the library take it.
 pub struct Owned {
     capacity: u32,
     hop: u16,
     gates: usize,
-    row: [u16; PLACES * MOST_GATES],
+    row: Vec<u16>,
 }
 
 impl Owned {
+    /// A gate with more than 8 fan-ins keeps its count, and has places for the first 8.
     pub fn of(network: &Network) -> Owned {
-        let mut row = [0; PLACES * MOST_GATES];
+        let mut row = vec![0; PLACES * network.gates.len()];
         for (gate, block) in network.gates.iter().zip(row.chunks_exact_mut(PLACES)) {
             block[0] = gate.weight;
             block[1] = gate.delay;
             block[2] = gate.fanins.len() as u16;
-            block[3..3 + gate.fanins.len()].copy_from_slice(&gate.fanins);
+            block[3..].iter_mut().zip(&gate.fanins).for_each(|(place, &fanin)| *place = fanin);
         }
         Owned { capacity: network.capacity, hop: network.hop, gates: network.gates.len(), row }
     }
@@ -90,29 +93,8 @@ fn time(label: Label, network: &InRow) -> Duration {
 
 /// The labelling under test, linked from the static library.
 #[cfg(feature = "bench")]
-mod proved {
-    use crate::steps::InRow;
-
-    extern "C" {
-        fn lykophene_label(
-            capacity: u32,
-            hop: u16,
-            gates: usize,
-            row: *const u16,
-            row_len: usize,
-            labels: *mut u32,
-            labels_len: usize,
-        ) -> u8;
-    }
-
-    pub fn label(network: &InRow, labels: &mut [u32]) {
-        let InRow { capacity, hop, gates, row } = *network;
-        // The function requires nothing of its arguments, and writes only within the slice of labels.
-        let refusal = unsafe {
-            lykophene_label(capacity, hop, gates, row.as_ptr(), row.len(), labels.as_mut_ptr(), labels.len())
-        };
-        assert_eq!(refusal, 0, "an accepted network");
-    }
+fn proved(network: &InRow, labels: &mut [u32]) {
+    assert_eq!(library::label(network, labels), Ok(()), "an accepted network");
 }
 
 /// The labellings that are timed: the baselines and, if it is linked, the proved one.
@@ -120,7 +102,7 @@ fn timed() -> Vec<(&'static str, Label)> {
     #[allow(unused_mut)]
     let mut timed = vec![("steps", steps::label as Label), ("sorted", sorted::label)];
     #[cfg(feature = "bench")]
-    timed.push(("proved", proved::label));
+    timed.push(("proved", proved));
     timed
 }
 

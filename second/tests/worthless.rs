@@ -3,6 +3,7 @@
 use second::backends::{Answers, Plain};
 use second::judge::judge;
 use second::rng::Rng;
+use second::rules::{Network, Refusal};
 use second::{damaged, exhaustive, plain, random, table};
 
 /// Gives an answer made of the text and the right answer.
@@ -59,4 +60,41 @@ fn no_changed_byte_passes() {
             assert!(judge(&text, &changed).is_err());
         }
     }
+}
+
+type Labelled = Result<Vec<u32>, Refusal>;
+
+/// Gives the right answer to every text, and one made of the right answer to a network in its row.
+struct Rows(fn(Labelled) -> Labelled);
+
+impl Answers for Rows {
+    fn answer(&mut self, text: &[u8]) -> Vec<u8> {
+        plain::answer(text)
+    }
+
+    fn labels(&mut self, network: &Network, places: usize) -> Option<Labelled> {
+        Some(self.0(plain::labels(network, places)))
+    }
+}
+
+fn drops_the_line(labelled: Labelled) -> Labelled {
+    labelled.map_err(|refusal| Refusal { line: 0, ..refusal })
+}
+
+fn refuses_with_10(labelled: Labelled) -> Labelled {
+    labelled.map_err(|_| Refusal::NO_ROOM)
+}
+
+#[test]
+fn worthless_answers_to_rows_fail() {
+    for rows in [drops_the_line, refuses_with_10] {
+        assert!(random::run(&mut Rows(rows), 500, 0, 1).failed > 0);
+        assert!(damaged::run(&mut Rows(rows), 500, 1).failed > 0);
+    }
+    let labels_a_row_too_short = |labelled: Labelled| match labelled {
+        Err(Refusal::NO_ROOM) => Ok(Vec::new()),
+        other => other,
+    };
+    assert!(random::run(&mut Rows(labels_a_row_too_short), 500, 0, 1).failed > 0);
+    assert_eq!(random::run(&mut Rows(|labelled| labelled), 500, 0, 1).failed, 0);
 }

@@ -1,7 +1,7 @@
--- `exports::lykophene_label` meets its contract: it answers the number of what `labelling::label` answers.
+-- `exports::lykophene_label` meets its contract: it tells what `labelling::label` answers.
 use mathlib.Core.Path.{sym, _∙_, ap}
 use borrow.Author.Needs.{needs}
-use Rattle.exports.specs.Exported.{number-of}
+use Rattle.exports.specs.Exported.{label-told}
 use Rattle.exports.proofs.lykophene_label.Statement.{statement}
 use Rattle.exports.proofs.lykophene_label.Tie as tie
 
@@ -11,26 +11,33 @@ label-requires c κs = search needs
 enum-told : tie.Need-enum-told
 enum-told c = search needs
 
+done-requires : tie.Need-done-requires
+done-requires c κs = search needs
+
 enum-known-answer : tie.Need-enum-known-answer
 enum-known-answer c = search needs
+
+refused-requires : tie.Need-refused-requires
+refused-requires c κs = search needs
 
 same-length : tie.Need-same-length
 same-length c = search needs
 
 returns : tie.Need-returns
-unfolding number-of
+unfolding label-told
 returns c =
-    let e = c .before .before .before .before .label .ensures in
-    record { answer = sym (ap number-of (c .enum-told .given .1)) ∙ ap number-of (e .answer); kept = e .kept }
+    let e = c .before .before .before .before .before .label .ensures in
+    record { answer = c .done .ensures ∙ sym (ap label-told (c .before .enum-told .given .1)) ∙ ap label-told (e .answer); kept = e .kept }
 
 same-length-2 : tie.Need-same-length-2
 same-length-2 c = search needs
 
 returns-2 : tie.Need-returns-2
-unfolding number-of
+unfolding label-told
 returns-2 c =
-    let e = c .before .before .before .before .before .label .ensures in
-    record { answer = sym (ap number-of (c .before .answer .given .1)) ∙ ap number-of (e .answer); kept = e .kept }
+    let a = c .before .before in
+    let e = a .before .before .before .before .label .ensures in
+    record { answer = c .refused .ensures ∙ sym (ap label-told (a .answer .given .1)) ∙ ap label-told (e .answer); kept = e .kept }
 
 pub lykophene-label-spec : {M : Type 1} → statement M
 lykophene-label-spec =
@@ -38,7 +45,9 @@ lykophene-label-spec =
     (tie.spec
     label-requires
     enum-told
+    done-requires
     enum-known-answer
+    refused-requires
     same-length
     returns
     same-length-2

@@ -1,12 +1,12 @@
 -- `exports::lykophene_line` meets its contract: what `prepare` and `tell` ensure is, by the headline, a line of what the text
 -- answers.
-use mathlib.Core.Path.{ap}
+use mathlib.Core.Path.{sym, _∙_, ap}
 use lib.Dec.{lit≤}
 use lib.ListN.{replicate}
 use borrow.Author.Needs.{needs}
 use Rattle.drawing.specs.Headline.{Ample}
 use Rattle.drawing.specs.Prepared.{lent-of}
-use Rattle.exports.specs.Exported.{length-of}
+use Rattle.exports.specs.Exported.{line-told}
 use Rattle.exports.proofs.Lines.{line-out}
 use Rattle.exports.proofs.lykophene_line.Statement.{statement}
 use Rattle.exports.proofs.lykophene_line.Tie as tie
@@ -42,28 +42,36 @@ tell-requires c κs = search needs
 enum-known-written : tie.Need-enum-known-written
 enum-known-written c = search needs
 
-enum-told : tie.Need-enum-told
-enum-told c = search needs
+done-requires : tie.Need-done-requires
+done-requires c κs = search needs
+
+enum-known-written-2 : tie.Need-enum-known-written-2
+enum-known-written-2 c = search needs
+
+refused-requires : tie.Need-refused-requires
+refused-requires c κs = search needs
 
 same-length : tie.Need-same-length
 same-length c = search needs
 
 returns : tie.Need-returns
-unfolding length-of
+unfolding line-told
 returns c =
-    let t = c .before .before .before .before .before in
+    let w = c .before .before in
+    let t = w .before .before .before .before in
     let p = t .before .before .before .before .before .before .before .before in
-    line-out ample (p .prepare .ensures) (t .tell .ensures) (ap length-of (c .before .written .given .1))
+    line-out ample (p .prepare .ensures) (t .tell .ensures) (c .done .ensures ∙ sym (ap line-told (w .written .given .1)))
 
 same-length-2 : tie.Need-same-length-2
 same-length-2 c = search needs
 
 returns-2 : tie.Need-returns-2
-unfolding length-of
+unfolding line-told
 returns-2 c =
-    let t = c .before .before .before .before in
+    let w = c .before .before in
+    let t = w .before .before .before .before in
     let p = t .before .before .before .before .before .before .before .before in
-    line-out ample (p .prepare .ensures) (t .tell .ensures) (ap length-of (c .enum-told .given .1))
+    line-out ample (p .prepare .ensures) (t .tell .ensures) (c .refused .ensures ∙ sym (ap line-told (w .written2 .given .1)))
 
 pub lykophene-line-spec : {M : Type 1} → statement M
 lykophene-line-spec =
@@ -78,7 +86,9 @@ lykophene-line-spec =
     slice-aggregate-tell-3
     tell-requires
     enum-known-written
-    enum-told
+    done-requires
+    enum-known-written-2
+    refused-requires
     same-length
     returns
     same-length-2
