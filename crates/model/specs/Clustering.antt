@@ -41,7 +41,7 @@ pub record OneCopy (k : Clustering) (v : ℕ) : Type 0 where
   pub of-it : k .gate-of copy ≡ v
   pub only : (c : ℕ) → c ∈ k .copies → k .gate-of c ≡ v → c ≡ copy
 
--- What a customer's board may be: all of C1 to C4.
+-- [C1] [C2] [C3] [C4] What a board may be. No copy is named twice.
 pub record Legal (n : Network) (k : Clustering) : Type 0 where
   pub distinct : Distinct (k .copies)
   pub wired : Wired n k
@@ -78,11 +78,12 @@ unfoldable pub copy-delay : Network → Clustering → ℕ → ℕ
 unfolding delay-within position
 copy-delay n k c = delay-within n k (suc (position n (k .gate-of c))) c
 
--- [C6] The copies whose delay counts, and the largest of their delays.
+-- [C6] the copies whose delay counts
 pub record OutputCopy (n : Network) (k : Clustering) (c : ℕ) : Type 0 where
   pub present : c ∈ k .copies
   pub of-output : k .gate-of c ∈ outputs n
 
+-- [C6] the largest of their delays
 abbrev pub ClusteringDelay : Network → Clustering → ℕ → Type 0
 ClusteringDelay n k = Largest (λ d. (c : ℕ) × OutputCopy n k c × Delay n k c d)
 

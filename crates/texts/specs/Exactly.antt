@@ -9,7 +9,7 @@ use Rattle.texts.specs.Reading.{Reading, refused, network, reading}
 use Rattle.texts.specs.Says.{Says, Reads}
 
 -- [O6] The answer r is a refusal exactly when that one is said, a network exactly when that one is read, and some network
--- exactly when nothing is said. [F13] No two refusals are said, and no two networks read.
+-- exactly when nothing is said. No two refusals are said, and no two networks read.
 pub record Exactly (Say : Refusal → Type 0) (Read : Network → Type 0) (r : Reading) : Type 0 where
   pub refusal : (f : Refusal) → (r ≡ refused f) ↔ Say f
   pub whole : (n : Network) → (r ≡ network n) ↔ Read n
