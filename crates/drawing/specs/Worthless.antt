@@ -73,5 +73,6 @@ pub record Fallen (b : Build) : Type 0 where
   pub writes-nothing : WritesNothing b → ⊥
   pub first-gate-only : FirstGateOnly b → ⊥
 
+-- [T5] No build that keeps the promises is one of them.
 abbrev pub WorthlessFall : Type 0
 WorthlessFall = (b : Build) → Keeps b → Fallen b

@@ -1,4 +1,4 @@
--- Refusals are numbered from 1: the number 0 is told exactly where nothing is refused.
+-- Refusals are numbered from 1, so that 0 stands for none.
 use Prim.Native.Nat.{ℕ, _≤_}
 use mathlib.Core.Path.{_≡_, refl}
 use mathlib.Core.Logic.{_↔_}
@@ -19,7 +19,7 @@ use Rattle.rows.specs.Spelling.{row-answer, spell}
 use Rattle.labelling.specs.declared.Labelled.the-variants as Labelled
 use Rattle.labelling.specs.Promises.{label-answer}
 use Rattle.drawing.proofs.Demands.{finished}
-use Rattle.exports.specs.Exported.{label-told, line-told}
+use Rattle.exports.specs.Exported.{label-told, line-told, ZeroIsNone}
 
 -- a refusal has a number above 0
 abbrev Numbered : Reading → Type 0
@@ -42,7 +42,7 @@ row-numbered h row = go (too-short (h .gates) row)
     go true = omega arith
     go false = text-numbered (spell h row)
 
-pub label-told-0 :
+label-told-0 :
     (h : Header) (row labels : List ℕ)
     → (label-told (label-answer (row-answer h row) labels) .number ≡ 0) ↔ (label-answer (row-answer h row) labels ≡ Labelled.Done)
 unfolding label-told label-answer
@@ -57,7 +57,7 @@ label-told-0 h row labels = (go (row-answer h row) (row-numbered h row), λ e. r
     go (refused f) one z = absurd (omega (arith, one, z))
     go (network n) one z = room (ltb (length labels) (size n)) z
 
-pub line-told-0 :
+line-told-0 :
     (line out : List ℕ)
     → (line-told (line-answer line out) .number ≡ 0) ↔ (line-answer line out ≡ Written.Line (length line))
 unfolding line-told line-answer
@@ -67,3 +67,6 @@ line-told-0 line out = (go (ltb (length out) (length line)), λ e. rw e)
         → cond short (Written.Refused no-room) (Written.Line (length line)) ≡ Written.Line (length line)
     go true z = absurd (omega (arith, z))
     go false z = refl
+
+pub zero-is-none : ZeroIsNone
+zero-is-none = record { labels = label-told-0; line = line-told-0 }

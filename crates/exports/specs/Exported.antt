@@ -1,7 +1,9 @@
 -- What the exported functions promise.
 use Prim.Native.Nat.{ℕ}
 use mathlib.Core.Path.{_≡_}
+use mathlib.Core.Logic.{_↔_}
 use mathlib.Core.List.{List}
+use lib.ListN.{length}
 use Rattle.units.specs.Units.{cells, ticks}
 use Rattle.frames.specs.Put.{line-at, line-answer, line-row}
 use Rattle.frames.specs.declared.Refusal.{Refusal}
@@ -46,3 +48,12 @@ line-told (Written.Refused f) = refused f
 pub record LineOut (text : List ℕ) (index : ℕ) (out : List ℕ) (r : Answer) (row : List ℕ) : Type 0 where
   pub answer : r ≡ line-told (line-answer (line-at index (answer-lines text)) out)
   pub kept : row ≡ line-row (line-at index (answer-lines text)) out
+
+-- [O1] The number 0 is told exactly where nothing is refused.
+pub record ZeroIsNone : Type 0 where
+  pub labels :
+      (h : Header) (row labels : List ℕ)
+      → (label-told (label-answer (row-answer h row) labels) .number ≡ 0) ↔ (label-answer (row-answer h row) labels ≡ Labelled.Done)
+  pub line :
+      (line out : List ℕ)
+      → (line-told (line-answer line out) .number ≡ 0) ↔ (line-answer line out ≡ Written.Line (length line))
