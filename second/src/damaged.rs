@@ -8,7 +8,8 @@ use crate::rules::{self, Gate, Network, Refusal};
 use crate::tally::Tally;
 use crate::{hex, random};
 
-/// Tries `count` damaged texts, every third with a refusal known beforehand.
+/// Tries `count` damaged texts, every third with a refusal known beforehand. Those damages take turns, and where each has
+/// had its turn so has every number.
 pub fn run(backend: &mut dyn Answers, count: u64, seed: u64) -> Tally {
     let mut rng = Rng::new(seed);
     let mut tally = Tally::default();
@@ -18,7 +19,7 @@ pub fn run(backend: &mut dyn Answers, count: u64, seed: u64) -> Tally {
             tally.ask(backend, &piled(&mut rng, &network));
             continue;
         }
-        match rng.pick(&KNOWN) {
+        match &KNOWN[index as usize / 3 % KNOWN.len()] {
             OfText(damage) => {
                 let (text, refusal) = damage(&mut rng, network);
                 let answer = backend.answer(&text);
@@ -33,6 +34,9 @@ pub fn run(backend: &mut dyn Answers, count: u64, seed: u64) -> Tally {
                 tally.count(&text, &answer, verdict);
             }
         }
+    }
+    if count >= 3 * KNOWN.len() as u64 {
+        tally.expect(&rules::NUMBERS);
     }
     tally
 }
@@ -68,8 +72,9 @@ fn frame(kind: u8, body: &[u8]) -> Vec<u8> {
 /// A byte that is no digit and no line feed, mostly one that looks like a digit or an end of line.
 fn no_digit(rng: &mut Rng) -> u8 {
     loop {
-        let byte = if rng.once_in(2) { *rng.pick(b"abcdefGgxXO/:@`\r\t \0") } else { rng.any() as u8 };
-        if byte != b'\n' && !b"0123456789ABCDEF".contains(&byte) {
+        let common = *rng.pick(b"abcdefGgxXO/:@`\r\t \0\x0B\x7F\x80\xB0\xC1\xFF");
+        let byte = if rng.once_in(2) { common } else { rng.any() as u8 };
+        if byte != b'\n' && !hex::DIGITS.contains(&byte) {
             return byte;
         }
     }
@@ -85,13 +90,16 @@ enum Known {
 
 use Known::{OfNetwork, OfText};
 
-const KNOWN: [Known; 17] = [
+const KNOWN: [Known; 20] = [
     OfText(too_long),
     OfText(bad_digit),
-    OfText(digit_lost),
+    OfText(carriage_return),
+    OfText(far_digit),
+    OfText(odd_digits),
     OfText(empty_line),
     OfText(last_feed_lost),
-    OfText(carriage_return),
+    OfText(broken_off),
+    OfText(malformed),
     OfText(misplaced_type),
     OfText(no_end),
     OfText(after_the_end),
@@ -106,7 +114,11 @@ const KNOWN: [Known; 17] = [
 ];
 
 fn due(text: Lines, number: u8, line: usize) -> (Vec<u8>, Refusal) {
-    (text.concat(), Refusal { number, line })
+    (text.concat(), Refusal::at_line(number, line))
+}
+
+fn due_at(text: Lines, line: usize, column: usize) -> (Vec<u8>, Refusal) {
+    (text.concat(), Refusal { number: 21, line, column })
 }
 
 fn too_long(rng: &mut Rng, network: Network) -> (Vec<u8>, Refusal) {
@@ -117,43 +129,122 @@ fn too_long(rng: &mut Rng, network: Network) -> (Vec<u8>, Refusal) {
     due(vec![text], 1, 0)
 }
 
+/// Puts a bad digit among others, often at their beginning or end, and often a second one behind it; the first one's
+/// column.
+fn spoil(rng: &mut Rng, digits: &mut [u8]) -> usize {
+    let last = digits.len() - 1;
+    let place = match rng.below(4) {
+        0 => 0,
+        1 => last,
+        _ => rng.between(0, last),
+    };
+    digits[place] = no_digit(rng);
+    if place < last && rng.once_in(2) {
+        digits[rng.between(place + 1, last)] = no_digit(rng);
+    }
+    place + 1
+}
+
 fn bad_digit(rng: &mut Rng, network: Network) -> (Vec<u8>, Refusal) {
     let mut text = lines(&network.text());
     let at = rng.below(text.len());
-    let place = rng.below(text[at].len() - 1);
-    text[at][place] = no_digit(rng);
-    due(text, 2, at + 1)
+    let end = text[at].len() - 1;
+    let column = spoil(rng, &mut text[at][..end]);
+    due_at(text, at + 1, column)
 }
 
-fn digit_lost(rng: &mut Rng, network: Network) -> (Vec<u8>, Refusal) {
+fn carriage_return(rng: &mut Rng, network: Network) -> (Vec<u8>, Refusal) {
+    let mut text = lines(&network.text());
+    let first = rng.below(text.len());
+    let column = text[first].len();
+    for line in &mut text[first..] {
+        let end = line.len() - 1;
+        line.insert(end, b'\r');
+    }
+    due_at(text, first + 1, column)
+}
+
+/// A bad digit in a line as long as a text may be, or shorter, that is the only one or stands behind the end.
+fn far_digit(rng: &mut Rng, network: Network) -> (Vec<u8>, Refusal) {
+    let mut text = if rng.once_in(2) { Lines::new() } else { lines(&network.text()) };
+    let most = rules::LONGEST_TEXT - text.concat().len();
+    let mut line = vec![b'0'; if rng.once_in(2) { most } else { rng.between(1, most) }];
+    let column = spoil(rng, &mut line);
+    if line.len() < most && rng.once_in(2) {
+        line.push(b'\n');
+    }
+    text.push(line);
+    let at = text.len();
+    due_at(text, at, column)
+}
+
+/// A digit less or more.
+fn odd_digits(rng: &mut Rng, network: Network) -> (Vec<u8>, Refusal) {
     let mut text = lines(&network.text());
     let at = rng.below(text.len());
     let place = rng.below(text[at].len() - 1);
-    text[at].remove(place);
-    due(text, 2, at + 1)
+    if rng.once_in(2) {
+        text[at].remove(place);
+    } else {
+        text[at].insert(place, *rng.pick(hex::DIGITS));
+    }
+    due(text, 22, at + 1)
 }
 
 fn empty_line(rng: &mut Rng, network: Network) -> (Vec<u8>, Refusal) {
     let mut text = lines(&network.text());
     let at = rng.between(0, text.len());
     text.insert(at, b"\n".to_vec());
-    due(text, 2, at + 1)
+    due(text, 23, at + 1)
 }
 
 fn last_feed_lost(_: &mut Rng, network: Network) -> (Vec<u8>, Refusal) {
     let mut text = network.text();
     text.pop();
-    due(vec![text], 2, network.gates.len() + 2)
+    due(vec![text], 24, network.gates.len() + 2)
 }
 
-fn carriage_return(rng: &mut Rng, network: Network) -> (Vec<u8>, Refusal) {
+/// Nothing behind some digit of a line, or behind a line feed, where it is the end that is missing.
+fn broken_off(rng: &mut Rng, network: Network) -> (Vec<u8>, Refusal) {
     let mut text = lines(&network.text());
-    let first = rng.below(text.len());
-    for line in &mut text[first..] {
-        let end = line.len() - 1;
-        line.insert(end, b'\r');
+    let at = rng.below(text.len());
+    let left = rng.below(text[at].len());
+    text.truncate(at + 1);
+    text[at].truncate(left);
+    let number = match left {
+        0 => 3,
+        _ if left % 2 == 1 => 22,
+        _ => 24,
+    };
+    due(text, number, at + 1)
+}
+
+/// A line of the network, or of any digits, with one to three faults of form. The first of 21, 22 and 24 is due, whatever
+/// its frame is worth and whatever follows.
+fn malformed(rng: &mut Rng, network: Network) -> (Vec<u8>, Refusal) {
+    let mut text = lines(&network.text());
+    let at = rng.below(text.len());
+    text.truncate(at + 1);
+    let mut line = text.remove(at);
+    line.pop();
+    if rng.once_in(2) {
+        line = (0..2 * rng.between(1, 16)).map(|_| *rng.pick(hex::DIGITS)).collect();
     }
-    due(text, 2, first + 1)
+    let faults = rng.between(1, 7);
+    let (bad, odd, unended) = (faults & 1 != 0, faults & 2 != 0, faults & 4 != 0);
+    if odd {
+        line.pop();
+    }
+    let column = if bad { spoil(rng, &mut line) } else { 0 };
+    text.push(line);
+    if !unended {
+        text.push(rng.pick(&[&b"\n"[..], b"\n\n", b"\nx", b"\n0", b"\n0F0001\n"]).to_vec());
+    }
+    match (bad, odd) {
+        (true, _) => due_at(text, at + 1, column),
+        (_, true) => due(text, 22, at + 1),
+        _ => due(text, 24, at + 1),
+    }
 }
 
 /// A type that no place of a network has, or a header that is not the first line, or a first line
@@ -206,13 +297,13 @@ fn nine_fanins(rng: &mut Rng, network: &mut Network) -> Refusal {
     let gate = rng.below(network.gates.len());
     let count = if rng.once_in(2) { 9 } else { rng.between(9, 255) as u16 };
     network.gates[gate].fanins = (0..count).collect();
-    Refusal { number: 4, line: gate + 2 }
+    Refusal::at_line(4, gate + 2)
 }
 
 fn gate_513(rng: &mut Rng, network: &mut Network) -> Refusal {
     let gates = rng.between(513, 600);
     network.gates.resize_with(gates, Gate::default);
-    Refusal { number: 5, line: 514 }
+    Refusal::at_line(5, 514)
 }
 
 fn fanins_fall(rng: &mut Rng, network: &mut Network) -> Refusal {
@@ -233,7 +324,7 @@ fn fanins_fall(rng: &mut Rng, network: &mut Network) -> Refusal {
             fanins.push(high as u16);
         }
     }
-    Refusal { number: 6, line: number + 2 }
+    Refusal::at_line(6, number + 2)
 }
 
 fn wrong_count(rng: &mut Rng, network: Network) -> (Vec<u8>, Refusal) {
@@ -259,7 +350,7 @@ fn lost_gates(rng: &mut Rng, mut network: Network) -> (Vec<u8>, Refusal) {
 
 fn no_gates(_: &mut Rng, network: &mut Network) -> Refusal {
     network.gates.clear();
-    Refusal { number: 8, line: 2 }
+    Refusal::at_line(8, 2)
 }
 
 /// M below a gate and not below those before it.
@@ -272,7 +363,7 @@ fn heavy_gate(rng: &mut Rng, network: &mut Network) -> Refusal {
     }
     network.gates[heavy].weight = weight as u16;
     network.capacity = capacity as u32;
-    Refusal { number: 9, line: heavy + 2 }
+    Refusal::at_line(9, heavy + 2)
 }
 
 // Damages that may do anything, one upon the other.
@@ -332,7 +423,7 @@ fn set_byte(rng: &mut Rng, text: &mut Lines) {
 
 fn set_digit(rng: &mut Rng, text: &mut Lines) {
     if let Some((line, place)) = somewhere(rng, text) {
-        line[place] = *rng.pick(b"0123456789ABCDEF");
+        line[place] = *rng.pick(hex::DIGITS);
     }
 }
 

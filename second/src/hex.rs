@@ -1,6 +1,15 @@
 //! Hexadecimal as frames spell it: digits 0-9 and A-F, an even number, big-endian.
 
-const DIGITS: &[u8; 16] = b"0123456789ABCDEF";
+pub const DIGITS: &[u8; 16] = b"0123456789ABCDEF";
+
+/// Why a line's digits spell no bytes.
+#[derive(Clone, Copy, Debug, PartialEq, Eq)]
+pub enum Misspelt {
+    Empty,
+    /// The place, from 1, of the first byte that is no digit.
+    BadDigit(usize),
+    Odd,
+}
 
 fn value(digit: u8) -> Option<u8> {
     match digit {
@@ -10,20 +19,23 @@ fn value(digit: u8) -> Option<u8> {
     }
 }
 
-/// Puts the bytes that `digits` spell into `bytes`, in place of what was there. False when there are
-/// no digits, an odd number of them, or one that is none.
-pub fn decode(digits: &[u8], bytes: &mut Vec<u8>) -> bool {
+/// Puts the bytes that `digits` spell into `bytes`, in place of what was there. That they are odd is told only
+/// where each of them is a digit.
+pub fn decode(digits: &[u8], bytes: &mut Vec<u8>) -> Result<(), Misspelt> {
     bytes.clear();
-    for pair in digits.chunks(2) {
-        match pair {
-            [high, low] => match (value(*high), value(*low)) {
-                (Some(high), Some(low)) => bytes.push(high * 16 + low),
-                _ => return false,
-            },
-            _ => return false,
+    let mut high = None;
+    for (place, &digit) in (1..).zip(digits) {
+        let low = value(digit).ok_or(Misspelt::BadDigit(place))?;
+        match high.take() {
+            None => high = Some(low),
+            Some(high) => bytes.push(high * 16 + low),
         }
     }
-    !bytes.is_empty()
+    match high {
+        Some(_) => Err(Misspelt::Odd),
+        None if digits.is_empty() => Err(Misspelt::Empty),
+        None => Ok(()),
+    }
 }
 
 /// Appends `number` as `width` bytes.

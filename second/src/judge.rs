@@ -56,7 +56,8 @@ fn refused(answer: &[u8], refusal: Refusal) -> Verdict {
     if answer == refusal.answer() {
         Ok(Some(refusal))
     } else {
-        Err(format!("refusal {} at line {} is due", refusal.number, refusal.line))
+        let Refusal { number, line, column } = refusal;
+        Err(format!("refusal {number} at line {line}, column {column} is due"))
     }
 }
 

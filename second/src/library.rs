@@ -3,20 +3,23 @@
 use crate::rules::Refusal;
 use crate::steps::InRow;
 
-/// A refusal's number and line and length 0, or number and line 0 and the length of the line written.
+/// A refusal's number, line and column and length 0, or three times 0 and the length of the line written.
 #[repr(C)]
 struct Answer {
     number: u8,
     line: usize,
+    column: usize,
     length: usize,
 }
 
 impl Answer {
     fn length(self) -> Result<usize, Refusal> {
         match self {
-            Answer { number: 0, line: 0, length } => Ok(length),
-            Answer { number, line, length: 0 } => Err(Refusal { number, line }),
-            Answer { number, line, length } => panic!("number {number}, line {line} and length {length}"),
+            Answer { number: 0, line: 0, column: 0, length } => Ok(length),
+            Answer { number, line, column, length: 0 } => Err(Refusal { number, line, column }),
+            Answer { number, line, column, length } => {
+                panic!("number {number}, line {line}, column {column} and length {length}")
+            }
         }
     }
 }

@@ -79,7 +79,7 @@ impl Lines<'_> {
         };
         let (line, rest) = (&self.rest[..end], &self.rest[end + 1..]);
         self.rest = rest;
-        if !hex::decode(line, &mut self.frame) {
+        if hex::decode(line, &mut self.frame).is_err() {
             return self.wrong("not a line of hexadecimal");
         }
         let fits = self.frame.len() == 1 + length || kind == 0x13 && self.frame.len() > length;

@@ -1,7 +1,7 @@
-//! Texts: how a network is spelled, and the refusal table, numbers 1 to 9. Number 10 speaks of lent
-//! rows, which only the library has.
+//! Texts: how a network is spelled, and the refusal table. Number 10 of it speaks of lent rows, which only
+//! the library has.
 
-use crate::hex;
+use crate::hex::{self, Misspelt};
 
 pub const LONGEST_TEXT: usize = 24_576;
 pub const MOST_GATES: usize = 512;
@@ -11,6 +11,10 @@ pub const HEADER: u8 = 0x01;
 pub const GATE: u8 = 0x02;
 pub const END: u8 = 0x0F;
 pub const REFUSAL: u8 = 0x1E;
+
+/// Every number that a text can be refused with: that of the whole text, those of a line's form, those of its frame,
+/// and that of the network.
+pub const NUMBERS: [u8; 12] = [1, 21, 22, 23, 24, 3, 4, 5, 6, 7, 8, 9];
 
 #[derive(Clone, Debug, Default, PartialEq, Eq)]
 pub struct Gate {
@@ -31,11 +35,17 @@ pub struct Network {
 pub struct Refusal {
     pub number: u8,
     pub line: usize,
+    /// With 21 the place, from 1, of the line's first bad digit; with all others 0.
+    pub column: usize,
 }
 
 impl Refusal {
     /// A lent row is too short.
-    pub const NO_ROOM: Refusal = Refusal { number: 10, line: 0 };
+    pub const NO_ROOM: Refusal = Refusal::at_line(10, 0);
+
+    pub const fn at_line(number: u8, line: usize) -> Refusal {
+        Refusal { number, line, column: 0 }
+    }
 
     /// The whole answer to a refused text.
     pub fn answer(self) -> Vec<u8> {
@@ -43,6 +53,7 @@ impl Refusal {
         hex::push(&mut text, REFUSAL.into(), 1);
         hex::push(&mut text, self.number.into(), 1);
         hex::push(&mut text, self.line, 2);
+        hex::push(&mut text, self.column, 2);
         text.push(b'\n');
         text
     }
@@ -100,36 +111,43 @@ impl Network {
     /// Refusal 9, if a gate is heavier than M. The header is line 1, so gate 0 stands in line 2.
     pub fn too_heavy(&self) -> Option<Refusal> {
         let heavy = |gate: &Gate| u32::from(gate.weight) > self.capacity;
-        self.gates.iter().position(heavy).map(|gate| Refusal { number: 9, line: gate + 2 })
+        self.gates.iter().position(heavy).map(|gate| Refusal::at_line(9, gate + 2))
     }
 }
 
-/// The network that a text spells, or its refusal of 1 to 8.
+/// The network that a text spells, or its refusal, which is any but 9 and 10.
 pub fn read(text: &[u8]) -> Result<Network, Refusal> {
     if text.len() > LONGEST_TEXT {
-        return Err(Refusal { number: 1, line: 0 });
+        return Err(Refusal::at_line(1, 0));
     }
     let mut network = Network::default();
     let mut ended = false;
     let mut lines = 0;
     let mut frame = Vec::with_capacity(32);
-    for ended_line in text.split_inclusive(|&byte| byte == b'\n') {
+    for line in text.split_inclusive(|&byte| byte == b'\n') {
         lines += 1;
-        let spelled = matches!(ended_line.strip_suffix(b"\n"), Some(line) if hex::decode(line, &mut frame));
-        let fault = if spelled { fault(&frame, lines, network.gates.len(), ended) } else { Some(2) };
-        if let Some(number) = fault {
-            return Err(Refusal { number, line: lines });
+        let digits = line.strip_suffix(b"\n").unwrap_or(line);
+        let fed = digits.len() < line.len();
+        let fault = match hex::decode(digits, &mut frame) {
+            Err(Misspelt::Empty) => Some((23, 0)),
+            Err(Misspelt::BadDigit(column)) => Some((21, column)),
+            Err(Misspelt::Odd) => Some((22, 0)),
+            Ok(()) if !fed => Some((24, 0)),
+            Ok(()) => fault(&frame, lines, network.gates.len(), ended).map(|number| (number, 0)),
+        };
+        if let Some((number, column)) = fault {
+            return Err(Refusal { number, line: lines, column });
         }
         ended = frame[0] == END;
         take(&frame, &mut network);
     }
     if !ended {
-        return Err(Refusal { number: 3, line: lines + 1 });
+        return Err(Refusal::at_line(3, lines + 1));
     }
     Ok(network)
 }
 
-/// The lowest number from 3 to 8 that a line deserves whose digits are in order. `gates` and `ended`
+/// The lowest number from 3 to 8 that a line deserves whose form is in order. `gates` and `ended`
 /// tell what the lines before it held: how many gates, and whether an end.
 fn fault(frame: &[u8], line: usize, gates: usize, ended: bool) -> Option<u8> {
     let (kind, body) = (frame[0], &frame[1..]);
@@ -200,12 +218,25 @@ mod tests {
     const A: &str = "01000000030004\n020001000100\n020001000200\n02000100030200000001\n\
                      0200010001010001\n02000100020200020003\n0F0005\n";
 
-    fn refused(text: &str) -> (u8, usize) {
-        let refusal = match read(text.as_bytes()) {
+    fn refusal(text: &[u8]) -> Refusal {
+        match read(text) {
             Err(refusal) => refusal,
             Ok(network) => network.too_heavy().expect("refused"),
-        };
+        }
+    }
+
+    /// Number and line of a refusal that has no column.
+    fn refused(text: &str) -> (u8, usize) {
+        let refusal = refusal(text.as_bytes());
+        assert_eq!(refusal.column, 0);
         (refusal.number, refusal.line)
+    }
+
+    /// Line and column of a refusal 21.
+    fn bad_digit(text: &[u8]) -> (usize, usize) {
+        let refusal = refusal(text);
+        assert_eq!(refusal.number, 21);
+        (refusal.line, refusal.column)
     }
 
     #[test]
@@ -220,14 +251,14 @@ mod tests {
     #[test]
     fn one_fault() {
         assert_eq!(refused(""), (3, 1));
-        assert_eq!(refused("\n"), (2, 1));
-        assert_eq!(refused("01000000030004"), (2, 1));
+        assert_eq!(refused("\n"), (23, 1));
+        assert_eq!(refused("01000000030004"), (24, 1));
         assert_eq!(refused("01000000030004\n"), (3, 2));
-        assert_eq!(refused("01000000030004\r\n"), (2, 1));
-        assert_eq!(refused("0100000003000\n"), (2, 1));
-        assert_eq!(refused(&A.replace('F', "f")), (2, 7));
-        assert_eq!(refused(&A[..A.len() - 1]), (2, 7));
-        assert_eq!(refused(&format!("{A}\n")), (2, 8));
+        assert_eq!(bad_digit(b"01000000030004\r\n"), (1, 15));
+        assert_eq!(refused("0100000003000\n"), (22, 1));
+        assert_eq!(bad_digit(A.replace('F', "f").as_bytes()), (7, 2));
+        assert_eq!(refused(&A[..A.len() - 1]), (24, 7));
+        assert_eq!(refused(&format!("{A}\n")), (23, 8));
         assert_eq!(refused(&format!("{A}0F0005\n")), (3, 8));
         assert_eq!(refused(&format!("{A}020001000100\n")), (3, 8));
         assert_eq!(refused(&A[..A.len() - 7]), (3, 7));
@@ -249,12 +280,40 @@ mod tests {
     }
 
     #[test]
+    fn every_byte_that_is_no_digit_at_every_place() {
+        let line = 15..27;
+        for byte in (0..=255).filter(|byte| !b"0123456789ABCDEF\n".contains(byte)) {
+            for place in line.clone() {
+                let mut text = A.as_bytes().to_vec();
+                text[place] = byte;
+                assert_eq!(bad_digit(&text), (2, place - line.start + 1));
+            }
+        }
+    }
+
+    #[test]
+    fn the_form_before_the_frame_and_in_it_21_22_24() {
+        assert_eq!(refused("FF0\n"), (22, 1));
+        assert_eq!(bad_digit(b"FFFG\n"), (1, 4));
+        assert_eq!(bad_digit(b"FFG\n"), (1, 3));
+        assert_eq!(bad_digit(b"0g0h\n"), (1, 2));
+        assert_eq!(bad_digit(b"\r\n"), (1, 1));
+        assert_eq!(bad_digit(b"FFG"), (1, 3));
+        assert_eq!(bad_digit(b"FFFG"), (1, 4));
+        assert_eq!(refused("0"), (22, 1));
+        assert_eq!(refused("FF"), (24, 1));
+        assert_eq!(refused("01000000030004\n0F0001"), (24, 2));
+        assert_eq!(refused("01000000030004\n\n"), (23, 2));
+        assert_eq!(refused("01000000030004\n\n0"), (23, 2));
+    }
+
+    #[test]
     fn the_first_faulty_line_decides_and_in_it_the_lowest_number() {
         assert_eq!(refused("01000000030004\n0F0001\n"), (7, 2));
-        assert_eq!(refused("FF0\n"), (2, 1));
-        assert_eq!(refused("FFFG\n"), (2, 1));
         assert_eq!(refused("02\n"), (3, 1));
         assert_eq!(refused("01000000030004\n03\n0\n"), (3, 2));
+        assert_eq!(refused("01000000030004\n0\nx\n"), (22, 2));
+        assert_eq!(refused("01000000030004\n03\nx"), (3, 2));
         assert_eq!(refused("01000000030004\n020000000001\n0\n"), (4, 2));
         assert_eq!(refused("01000000000004\n020001000100\n0F0002\n"), (7, 3));
         assert_eq!(refused("01000000000004\n020001000100\n"), (3, 3));
@@ -269,7 +328,8 @@ mod tests {
         assert_eq!(refused(&format!("{full}020001000100\n0F0201\n")), (5, 514));
         assert_eq!(refused(&format!("{full}020001000109\n")), (4, 514));
         assert_eq!(refused(&format!("{full}0200010001010200\n")), (5, 514));
-        assert_eq!(refused(&"\n".repeat(24_576)), (2, 1));
+        assert_eq!(refused(&"\n".repeat(24_576)), (23, 1));
         assert_eq!(refused(&"\n".repeat(24_577)), (1, 0));
+        assert_eq!(bad_digit(format!("{}x", "0".repeat(24_575)).as_bytes()), (1, 24_576));
     }
 }

@@ -1,4 +1,4 @@
-//! The worked rows P1 to P13 of `docs/RULES.md`, and texts at the ceilings, which are only run.
+//! The worked rows P1 to P24 of `docs/RULES.md`, and texts at the ceilings, which are only run.
 
 use crate::backends::Answers;
 use crate::judge::judge;
@@ -11,8 +11,8 @@ pub enum Outcome {
     Drawn(u64, &'static [usize]),
     /// The same, and what the last root holds.
     Holds(u64, &'static [usize], &'static [usize]),
-    /// Number and line.
-    Refused(u8, usize),
+    /// Number, line and column.
+    Refused(u8, usize, usize),
     /// The whole answer.
     Whole(&'static str),
     /// A result, whichever is right.
@@ -41,8 +41,10 @@ pub fn run(backend: &mut dyn Answers) -> Tally {
 }
 
 fn meets(case: &Case, answer: &[u8], due: Option<Refusal>) -> bool {
-    if let Refused(number, line) = case.outcome {
-        return due == Some(Refusal { number, line });
+    if let Refused(number, line, column) = case.outcome {
+        // Spelled here once more: otherwise the frame of a refusal would only be compared with itself.
+        let frame = format!("1E{number:02X}{line:04X}{column:04X}\n");
+        return due == Some(Refusal { number, line, column }) && answer == frame.as_bytes();
     }
     let gates = case.text.split(|&byte| byte == b'\n').count() - 3;
     let printed = match printed::read(answer, gates) {
@@ -72,6 +74,13 @@ const A_ANSWER: &str = "110000000A0003\n12000000000001\n12000100000002\n12000200
 /// Network A with another M and D.
 fn a(capacity: u32, hop: u16) -> Vec<u8> {
     A.replace("01000000030004", &format!("01{capacity:08X}{hop:04X}")).into()
+}
+
+/// Network A with so many of its lines, from a place on, replaced by others.
+fn a_with(at: usize, lines: usize, others: &str) -> Vec<u8> {
+    let mut text: Vec<&str> = A.split_inclusive('\n').collect();
+    text.splice(at - 1..at - 1 + lines, [others]);
+    text.concat().into()
 }
 
 /// The lines of network A's header and of what follows it.
@@ -104,6 +113,13 @@ fn as_long_as(bytes: usize) -> Vec<u8> {
     text
 }
 
+/// One line of so many bytes, not ended, the last of which is no digit.
+fn bad_at(bytes: usize) -> Vec<u8> {
+    let mut text = vec![b'0'; bytes - 1];
+    text.push(b'x');
+    text
+}
+
 fn weighing(weight: u16) -> Vec<u8> {
     Network { capacity: 7, hop: 1, gates: vec![Gate { weight, delay: 1, fanins: vec![] }] }.text()
 }
@@ -118,21 +134,33 @@ pub fn cases() -> Vec<Case> {
         case("P4", a(4, 4), Drawn(9, &[3, 4])),
         case("P5", a(5, 4), Drawn(7, &[4])),
         case("P6", a(1, 0), Drawn(7, &[0, 1, 2, 3, 4])),
-        case("P7", a(0, 4), Refused(9, 2)),
+        case("P7", a(0, 4), Refused(9, 2, 0)),
         case("P8", b"01000000000000\n020000000000\n0F0001\n".to_vec(), Drawn(0, &[0])),
         case("P9", chain_of_three(), Holds(1, &[0, 2], &[1, 2])),
-        case("P10", Vec::new(), Refused(3, 1)),
-        case("P11", header_and("0F0000\n"), Refused(8, 2)),
-        case("P12", header_and("0F0001\n"), Refused(7, 2)),
-        case("P13", header_and("0200000000010000\n0F0001\n"), Refused(6, 2)),
+        case("P10", Vec::new(), Refused(3, 1, 0)),
+        case("P11", header_and("0F0000\n"), Refused(8, 2, 0)),
+        case("P12", header_and("0F0001\n"), Refused(7, 2, 0)),
+        case("P13", header_and("0200000000010000\n0F0001\n"), Refused(6, 2, 0)),
+        case("P14", a_with(1, 1, "0100000003000g\n"), Refused(21, 1, 14)),
+        case("P15", a_with(3, 1, "02000100020x0y\n"), Refused(21, 3, 12)),
+        case("P16", a_with(2, 1, "020001000100\r\n"), Refused(21, 2, 13)),
+        case("P17", a_with(4, 1, "0200010003020000001\n"), Refused(22, 4, 0)),
+        case("P18", a_with(3, 0, "\n"), Refused(23, 3, 0)),
+        case("P19", b"\n".to_vec(), Refused(23, 1, 0)),
+        case("P20", a_with(7, 1, "0F0005"), Refused(24, 7, 0)),
+        case("P21", b"0".to_vec(), Refused(22, 1, 0)),
+        case("P22", b"x".to_vec(), Refused(21, 1, 1)),
+        case("P23", header_and("FF"), Refused(24, 2, 0)),
+        case("P24", header_and("FFFg\n"), Refused(21, 2, 4)),
         case("512 gates", lone_gates(512), Read),
-        case("513 gates", lone_gates(513), Refused(5, 514)),
+        case("513 gates", lone_gates(513), Refused(5, 514, 0)),
         case("8 fan-ins", reads_all(8), Read),
-        case("9 fan-ins", reads_all(9), Refused(4, 11)),
+        case("9 fan-ins", reads_all(9), Refused(4, 11, 0)),
         case("weight M", weighing(7), Drawn(1, &[0])),
-        case("weight M + 1", weighing(8), Refused(9, 2)),
-        case("24,576 bytes", as_long_as(24_576), Refused(3, 8)),
-        case("24,577 bytes", as_long_as(24_577), Refused(1, 0)),
+        case("weight M + 1", weighing(8), Refused(9, 2, 0)),
+        case("24,576 bytes", as_long_as(24_576), Refused(3, 8, 0)),
+        case("24,577 bytes", as_long_as(24_577), Refused(1, 0, 0)),
+        case("byte 24,576 no digit", bad_at(24_576), Refused(21, 1, 24_576)),
     ]
 }
 

@@ -9,7 +9,7 @@ pub struct Tally {
     pub passed: u64,
     pub failed: u64,
     /// How many texts each refusal number was due for; in place 0, how many a result.
-    due: [u64; 10],
+    due: [u64; 25],
 }
 
 impl Tally {
@@ -39,6 +39,17 @@ impl Tally {
         }
     }
 
+    /// Where every text passed, each of the numbers that was due for none of them fails.
+    pub fn expect(&mut self, numbers: &[u8]) {
+        if self.failed > 0 {
+            return;
+        }
+        for number in numbers.iter().filter(|&&number| self.due[usize::from(number)] == 0) {
+            self.failed += 1;
+            println!("FAILED: refusal {number} was due for no text");
+        }
+    }
+
     /// Two closing lines; true when nothing failed.
     pub fn close(&self) -> bool {
         print!("{} results", self.due[0]);
@@ -57,5 +68,19 @@ fn show(text: &[u8]) {
             Some(line) => println!("    {}", line.escape_ascii()),
             None => println!("    {} (no line feed)", line.escape_ascii()),
         }
+    }
+}
+
+#[cfg(test)]
+mod tests {
+    use super::*;
+    use crate::rules::Refusal;
+
+    #[test]
+    fn a_number_that_never_came_fails() {
+        let mut tally = Tally::default();
+        tally.count(b"", b"", Ok(Some(Refusal::at_line(3, 1))));
+        tally.expect(&[3, 21]);
+        assert_eq!((tally.passed, tally.failed), (1, 1));
     }
 }

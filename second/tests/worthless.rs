@@ -16,7 +16,7 @@ impl Answers for Build {
 }
 
 fn refuses_all(_: &[u8], _: Vec<u8>) -> Vec<u8> {
-    b"1E030001\n".to_vec()
+    b"1E0300010000\n".to_vec()
 }
 
 fn prints_one_result(_: &[u8], _: Vec<u8>) -> Vec<u8> {
@@ -45,6 +45,66 @@ fn worthless_builds_fail() {
         assert!(damaged::run(&mut Build(build), 500, 1).failed > 0);
         assert!(table::run(&mut Build(build)).failed > 0);
     }
+}
+
+/// The line of a refusal with some of its bytes replaced by others; a result as it is.
+fn refused_with(mut answer: Vec<u8>, bytes: std::ops::Range<usize>, others: &[u8]) -> Vec<u8> {
+    if answer.starts_with(b"1E") {
+        answer.splice(bytes, others.iter().copied());
+    }
+    answer
+}
+
+fn leaves_the_column_out(_: &[u8], answer: Vec<u8>) -> Vec<u8> {
+    refused_with(answer, 8..12, b"")
+}
+
+fn tells_column_0(_: &[u8], answer: Vec<u8>) -> Vec<u8> {
+    refused_with(answer, 8..12, b"0000")
+}
+
+fn tells_a_column_with_all(_: &[u8], answer: Vec<u8>) -> Vec<u8> {
+    if answer.ends_with(b"0000\n") {
+        refused_with(answer, 8..12, b"0001")
+    } else {
+        answer
+    }
+}
+
+fn cuts_the_column_to_a_byte(_: &[u8], answer: Vec<u8>) -> Vec<u8> {
+    refused_with(answer, 8..10, b"00")
+}
+
+fn tells_bad_digits_at_line_1(_: &[u8], answer: Vec<u8>) -> Vec<u8> {
+    if answer.starts_with(b"1E15") {
+        refused_with(answer, 4..8, b"0001")
+    } else {
+        answer
+    }
+}
+
+fn knows_number_2_alone(_: &[u8], answer: Vec<u8>) -> Vec<u8> {
+    if answer.starts_with(b"1E1") {
+        refused_with(answer, 2..4, b"02")
+    } else {
+        answer
+    }
+}
+
+#[test]
+fn worthless_refusals_fail() {
+    for build in [
+        leaves_the_column_out,
+        tells_column_0,
+        tells_a_column_with_all,
+        cuts_the_column_to_a_byte,
+        tells_bad_digits_at_line_1,
+        knows_number_2_alone,
+    ] {
+        assert!(damaged::run(&mut Build(build), 500, 1).failed > 0);
+        assert!(table::run(&mut Build(build)).failed > 0);
+    }
+    assert_eq!(damaged::run(&mut Build(|_, answer| answer), 500, 1).failed, 0);
 }
 
 #[test]
@@ -81,13 +141,17 @@ fn drops_the_line(labelled: Labelled) -> Labelled {
     labelled.map_err(|refusal| Refusal { line: 0, ..refusal })
 }
 
+fn points_at_a_column(labelled: Labelled) -> Labelled {
+    labelled.map_err(|refusal| Refusal { column: 1, ..refusal })
+}
+
 fn refuses_with_10(labelled: Labelled) -> Labelled {
     labelled.map_err(|_| Refusal::NO_ROOM)
 }
 
 #[test]
 fn worthless_answers_to_rows_fail() {
-    for rows in [drops_the_line, refuses_with_10] {
+    for rows in [drops_the_line, points_at_a_column, refuses_with_10] {
         assert!(random::run(&mut Rows(rows), 500, 0, 1).failed > 0);
         assert!(damaged::run(&mut Rows(rows), 500, 1).failed > 0);
     }

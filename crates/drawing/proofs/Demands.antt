@@ -1,15 +1,14 @@
 -- The three demands hold of every text.
-use Prim.Native.Nat.{ℕ, suc, _+_, _*_, _≤_}
-use mathlib.Core.Path.{_≡_, refl, ap}
-use mathlib.Core.Logic.{_⊎_, inl, inr, ⊎-elim}
-use mathlib.Core.Bool.{Bool, true, _&&_}
-use mathlib.Core.List.{List, [], _∷_, _++_, map, List·Memᴰ, List·Memᴰ·not-nil, List·Memᴰ·cases-cons, List·Memᴰ·append-cases, List·Memᴰ·eq-of-singleton}
+use Prim.Native.Nat.{ℕ, suc, _+_, _*_, _≤_, _<_}
+use mathlib.Core.Path.{_≡_, refl, sym, _∙_, ap}
+use mathlib.Core.Logic.{_⊎_, inl, inr, ⊎-elim, _↔_}
+use mathlib.Core.List.{List, [], _∷_, _++_, map, List·Memᴰ, List·Memᴰ·head, List·Memᴰ·not-nil, List·Memᴰ·cases-cons, List·Memᴰ·append-cases, List·Memᴰ·eq-of-singleton, Memᴰ·append-right}
 use mathlib.Core.Option.{Option, none, some}
 use native.Mathlib.Omega.{arith}
 use lib.ListN.{length, getD, length-append}
-use borrow.Author.Tests.{leb-true}
-use lib.Dec.{leb, ltb}
-use Rattle.model.specs.Basics.{upto, member}
+use lib.Seq.{getD-append-seam}
+use lib.Dec.{ltb}
+use Rattle.model.specs.Basics.{upto, member, _∈_}
 use Rattle.model.specs.Ceilings.{most-gates}
 use Rattle.model.specs.Network.{Network, size, position, WellFormed}
 use Rattle.model.specs.Label.{labels, label, cluster}
@@ -27,18 +26,18 @@ use Rattle.model.proofs.UpperBound.{member-known, member-position}
 use Rattle.model.proofs.Drawn.{drawn-is}
 use Rattle.model.proofs.CopyDelay.{output-delay-is}
 use Rattle.frames.specs.Text.{Line, lines}
-use Rattle.frames.specs.Table.{Row, table}
 use Rattle.frames.specs.declared.Refusal.{Refusal}
 use Rattle.frames.specs.Refusal.{at-line}
-use Rattle.frames.specs.Fault.{Given}
-use Rattle.frames.proofs.Fault.{given-listed}
-use Rattle.frames.proofs.Tests.{never, both-true}
+use Rattle.frames.specs.Fault.{Column, of-21, of-another}
+use Rattle.frames.proofs.Fault.{given-number, passes, among}
+use Rattle.frames.proofs.Tests.{never}
 use Rattle.texts.specs.Reading.{Reading, refused, network, reading, first-heavy}
 use Rattle.texts.specs.Says.{Says, too-long, faulty-line, no-end, too-heavy}
 use Rattle.frames.specs.Digits.{spell-line, word-bytes, long-bytes}
 use Rattle.texts.proofs.Table.{reading-exactly, walk-whole}
 use Rattle.texts.proofs.Heavy.{heavy-told, heavy-none}
-use Rattle.texts.proofs.GateLines.{line-count}
+use Rattle.texts.proofs.GateLines.{blank, line-count}
+use Rattle.texts.proofs.Lines.{lines-few, line-within}
 use Rattle.frames.proofs.Digits.{length-word-bytes}
 use Rattle.texts.proofs.Accepted.{walked}
 use Rattle.texts.proofs.AcceptedNetwork.{fit-well-formed, accepted-well-formed, accepted-network, accepted-within-ceilings, accepted-not-heavy}
@@ -48,9 +47,10 @@ use Rattle.rows.proofs.Room.{answer-exactly}
 use Rattle.rows.proofs.RoundTrip.{read-written}
 use Rattle.selection.specs.Selection.{delay-from}
 use Rattle.results.specs.Result.{result-lines, result-bytes, label-bytes, cluster-bytes, result-end-bytes, refusal-bytes}
+use Rattle.results.specs.Block.{refusal-lines}
 use Rattle.results.proofs.Lengths.{keep-shorter, length-upto, members-few, line-length, result-count}
 use Rattle.drawing.specs.Answer.{answer-lines, lines-told, network-result}
-use Rattle.drawing.specs.Demands.{most-line, Finished, Faithful, WellFormedText, Optimal}
+use Rattle.drawing.specs.Demands.{most-line, numbers, Finished, Faithful, WellFormedText, Optimal}
 
 -- what the model says of an accepted network
 
@@ -142,38 +142,67 @@ faithful text n e =
 
 -- Demand 1
 
--- every number of the table is 2 to 8: a test that antt computes
-all-between : List Row → Bool
-all-between [] = true
-all-between (r ∷ rs) = leb 2 (r .number) && (leb (r .number) 8 && all-between rs)
+-- the line with so many in front of it
+stands : {ls : List Line} (front : List Line) (l : Line) (back : List Line) → ls ≡ front ++ (l ∷ back) → getD ls (length front) blank ≡ l
+stands front l back e = ap (λ (ls : List Line). getD ls (length front) blank) e ∙ getD-append-seam front l back blank
 
-between : (rs : List Row) (r : Row) → all-between rs ≡ true → List·Memᴰ r rs → (2 ≤ r .number) × (r .number ≤ 8)
-unfolding all-between
-between [] r t m = absurd (List·Memᴰ·not-nil m)
-between (q ∷ rs) r t m =
-    let a = both-true (leb 2 (q .number)) (leb (q .number) 8 && all-between rs) t in
-    let b = both-true (leb (q .number) 8) (all-between rs) (a .1) in
-    ⊎-elim (λ (e : r ≡ q). omega (arith, ap (λ (x : Row). x .number) e, leb-true 2 (q .number) (a .0), leb-true (q .number) 8 (b .0)))
-    (λ (m′ : List·Memᴰ r rs). between rs r (b .1) m′)
-    (List·Memᴰ·cases-cons m)
+-- a column comes with 21 alone, and points into its line
+no-column : {k : ℕ} → (k ≡ 21 → ⊥) → (k ≡ 21) ↔ (0 < 0)
+no-column other = (λ e. absurd (other e), λ h. absurd (omega arith))
 
-pub given-between : {k : ℕ} {l : Line} → (p : _) → Given k p l → (2 ≤ k) × (k ≤ 8)
-unfolding all-between table
-given-between p g = omega (arith, between table (g .row) refl (given-listed g), g .numbered)
+column-with : {l : Line} {k c : ℕ} → Column l k c → (k ≡ 21) ↔ (0 < c)
+column-with (of-21 f) = (λ e. omega (arith, f .placed), λ h. refl)
+column-with (of-another other) = no-column other
+
+column-in : {l : Line} {k c : ℕ} → Column l k c → c ≤ length (l .digits)
+column-in (of-21 f) = omega (arith, f .placed, ap length (f .listed), length-append (f .before) (f .bad ∷ f .after))
+column-in (of-another other) = omega arith
+
+-- the column points into the line that it is told of
+abbrev Inside : List ℕ → Refusal → Type 0
+Inside text f =
+    (front : List Line) (l : Line) (back : List Line) → lines text ≡ front ++ (l ∷ back) → f .line ≡ suc (length front)
+    → f .column ≤ length (l .digits)
 
 module _ (text : List ℕ) where
-  number-bound : {f : Refusal} → Says text f → (1 ≤ f .number) × (f .number ≤ 10)
-  number-bound (too-long h) = omega arith
-  number-bound (faulty-line {p = p} back fits b here given) = omega (arith, given-between p given)
-  number-bound (no-end fits b h) = omega arith
-  number-bound (too-heavy fits b h) = omega arith
+  number-known : {f : Refusal} → Says text f → f .number ∈ numbers
+  unfolding passes member
+  number-known (too-long h) = member-true 1 numbers refl
+  number-known (faulty-line back fits b here given c) = among _ numbers (given-number given) refl
+  number-known (no-end fits b h) = member-true 3 numbers refl
+  number-known (too-heavy fits b h) = member-true 9 numbers refl
 
   line-bound : {f : Refusal} → Says text f → f .line ≤ suc (length (lines text))
   line-bound (too-long h) = omega arith
-  line-bound (faulty-line {front = front} {l = l} back fits b here given) =
+  line-bound (faulty-line {front = front} {l = l} back fits b here given c) =
       omega (arith, ap length here, length-append front (l ∷ back))
   line-bound (no-end fits b h) = omega arith
   line-bound (too-heavy fits b h) = omega (arith, line-count b, h .heavy .known)
+
+  column-told : {f : Refusal} → Says text f → (f .number ≡ 21) ↔ (0 < f .column)
+  column-told (too-long h) = no-column (λ e. omega (arith, e))
+  column-told (faulty-line back fits b here given c) = column-with c
+  column-told (no-end fits b h) = no-column (λ e. omega (arith, e))
+  column-told (too-heavy fits b h) = no-column (λ e. omega (arith, e))
+
+  column-inside : {f : Refusal} → Says text f → Inside text f
+  column-inside (too-long h) front l back e at = omega arith
+  column-inside (faulty-line {front = before} {l = k} behind fits b here given c) front l back e at =
+      let level : length before ≡ length front = omega (arith, at) in
+      let same : k ≡ l = sym (stands before k behind here) ∙ ap (λ i. getD (lines text) i blank) level ∙ stands front l back e in
+      omega (arith, column-in c, ap (λ (m : Line). length (m .digits)) same)
+  column-inside (no-end fits b h) front l back e at = omega arith
+  column-inside (too-heavy fits b h) front l back e at = omega arith
+
+  -- a text that is not too long has no more lines than bytes, and no longer line
+  both-held : {f : Refusal} → Says text f → (f .line < 65_536) × (f .column < 65_536)
+  both-held (too-long h) = omega arith
+  both-held (faulty-line {front = front} {l = l} back fits b here given c) =
+      let there : List·Memᴰ l (lines text) = rw here (Memᴰ·append-right front (List·Memᴰ·head refl)) in
+      omega
+      (arith, lines-few text, ap length here, length-append front (l ∷ back), column-in c, line-within text l there)
+  both-held (no-end fits b h) = omega (arith, lines-few text)
+  both-held (too-heavy fits b h) = omega (arith, lines-few text, line-count b, h .heavy .known)
 
 -- the lines of an answer: how many, and how long
 
@@ -236,6 +265,15 @@ unfolding lines-told network-result refusal-bytes word-bytes
 told-short (refused f) few = one-short _ (omega (arith, line-length (refusal-bytes f)))
 told-short (network n) few = result-short n (labels n) (drawn n (labels n)) (few n refl)
 
+-- the one line of a text that is refused
+pub refused-lines : (text : List ℕ) (f : Refusal) → reading text ≡ refused f → answer-lines text ≡ refusal-lines f
+unfolding answer-lines lines-told
+refused-lines text f e = ap lines-told e
+
+pub refusal-line-length : (f : Refusal) (l : List ℕ) → List·Memᴰ l (refusal-lines f) → length l ≡ 13
+unfolding refusal-bytes word-bytes
+refusal-line-length f l m = omega (arith, ap length (List·Memᴰ·eq-of-singleton m), line-length (refusal-bytes f))
+
 -- Every text is answered within the bounds, and a refusal keeps the row.
 pub finished : (text row : List ℕ) → Finished text row
 unfolding answer-lines AllShort filled
@@ -245,6 +283,11 @@ finished text row =
       told = either (answer text row);
       number = λ f e. room-number (answer-exactly text row .refusal f .0 e);
       line = λ f e. room-line (answer-exactly text row .refusal f .0 e);
+      column = λ f e. room-column (answer-exactly text row .refusal f .0 e);
+      inside = λ f e. room-inside (answer-exactly text row .refusal f .0 e);
+      held = λ f e. room-held (answer-exactly text row .refusal f .0 e);
+      one-line = refused-lines text;
+      bytes = refusal-line-length;
       few = told-few (reading text) few;
       short = told-short (reading text) few;
       kept = λ f e. rw e;
@@ -254,10 +297,22 @@ finished text row =
     either (refused f) = inr (f, refl)
     either (network n) = inl (n, refl)
 
-    room-number : {f : Refusal} → SaysRoom text row f → (1 ≤ f .number) × (f .number ≤ 10)
-    room-number (of-text s) = number-bound text s
-    room-number (short-row r s) = omega arith
+    room-number : {f : Refusal} → SaysRoom text row f → f .number ∈ numbers
+    room-number (of-text s) = number-known text s
+    room-number (short-row r s) = member-true 10 numbers (unfold member in refl)
 
     room-line : {f : Refusal} → SaysRoom text row f → f .line ≤ suc (length (lines text))
     room-line (of-text s) = line-bound text s
     room-line (short-row r s) = omega arith
+
+    room-column : {f : Refusal} → SaysRoom text row f → (f .number ≡ 21) ↔ (0 < f .column)
+    room-column (of-text s) = column-told text s
+    room-column (short-row r s) = no-column (λ e. omega (arith, e))
+
+    room-inside : {f : Refusal} → SaysRoom text row f → Inside text f
+    room-inside (of-text s) = column-inside text s
+    room-inside (short-row r s) = λ front l back e at. omega arith
+
+    room-held : {f : Refusal} → SaysRoom text row f → (f .line < 65_536) × (f .column < 65_536)
+    room-held (of-text s) = both-held text s
+    room-held (short-row r s) = omega arith

@@ -1,4 +1,4 @@
--- antt computes every worked row, P1 to P13, and blocks of lines.
+-- antt computes every worked row, P1 to P24, and blocks of lines.
 use Prim.Native.Nat.{ℕ}
 use mathlib.Core.Path.{_≡_, refl}
 use mathlib.Core.List.{List, [], _++_}
@@ -34,11 +34,11 @@ pub blocks :
 unfolding lines-answer run-answer fitting answer-lines A typed join
 blocks = (refl, refl, refl, refl, refl)
 
--- a refusal has its one line, of 9 bytes, in the first block
+-- a refusal has its one line, of 13 bytes, in the first block
 pub refusal-blocks :
     (l : Lent)
-    → (tell-lines-answer (read.Refused (at-line 3 1)) 0 l (replicate 9 0) ≡ block.Lines 1 9)
-    × (tell-lines-answer (read.Refused (at-line 3 1)) 0 l (replicate 8 0) ≡ block.Refused no-room)
-    × (tell-lines-answer (read.Refused (at-line 3 1)) 1 l (replicate 9 0) ≡ block.Lines 0 0)
+    → (tell-lines-answer (read.Refused (at-line 3 1)) 0 l (replicate 13 0) ≡ block.Lines 1 13)
+    × (tell-lines-answer (read.Refused (at-line 3 1)) 0 l (replicate 12 0) ≡ block.Refused no-room)
+    × (tell-lines-answer (read.Refused (at-line 3 1)) 1 l (replicate 13 0) ≡ block.Lines 0 0)
 unfolding tell-lines-answer lines-answer run-answer fitting join spell-line refusal-bytes
 refusal-blocks l = (refl, refl, refl)

@@ -1,10 +1,11 @@
 -- The promise over a whole text holds.
 use Prim.Native.Nat.{ℕ, zero, suc, _*_, _≤_, _<_}
 use mathlib.Core.Path.{_≡_, refl, sym, _∙_, ap}
-use mathlib.Core.Bool.{false}
+use mathlib.Core.Bool.{true, false, not}
 use mathlib.Core.List.{List, [], _∷_, _++_, List·Memᴰ, List·Memᴰ·head, List·Memᴰ·tail}
 use native.Mathlib.Omega.{arith}
 use borrow.Author.Tests.{le-ltb}
+use lib.Dec.{eqb}
 use lib.ListN.{length, drop, length-append, length-drop}
 use Rattle.model.specs.Ceilings.{most-gates}
 use Rattle.model.specs.Network.{Network, size}
@@ -15,6 +16,7 @@ use Rattle.texts.specs.Reading.{Reading, refused, network, reading}
 use Rattle.frames.specs.declared.Refusal.{Refusal}
 use Rattle.texts.specs.Spelling.{join}
 use Rattle.texts.specs.Says.{Says, too-long, faulty-line, no-end, too-heavy}
+use Rattle.frames.proofs.Fault.{given-number, passes, passed-by}
 use Rattle.frames.proofs.Tests.{never}
 use Rattle.texts.proofs.Table.{reading-exactly}
 use Rattle.texts.proofs.AcceptedNetwork.{accepted-well-formed, accepted-within-ceilings}
@@ -32,15 +34,15 @@ use Rattle.results.specs.declared.block.Block.{Block}
 use Rattle.results.specs.declared.block.Block.the-variants.{Lines}
 use Rattle.results.specs.Result.{result-lines}
 use Rattle.results.specs.Line.{told-line}
-use Rattle.results.specs.Block.{fitting, in-front, lines-answer, lines-row, LinesWritten, drawn-lines, refusal-lines}
+use Rattle.results.specs.Block.{fitting, in-front, lines-answer, lines-row, LinesWritten, drawn-lines}
 use Rattle.results.proofs.Answered.{told-written}
 use Rattle.results.proofs.Fitting.{drop-first}
 use Rattle.results.proofs.Blocks.{told-at, some-fit, one-fits, block-written}
-use Rattle.drawing.specs.Answer.{answer-lines, lines-told, network-result}
+use Rattle.drawing.specs.Answer.{answer-lines, network-result}
 use Rattle.drawing.specs.Demands.{most-line}
 use Rattle.drawing.specs.Prepared.{Lent, any-short, prepared-answer, prepared-rows, prepared-lent, tell-answer, tell-row, Told, tell-lines-answer, tell-lines-row, ToldLines}
 use Rattle.drawing.specs.Headline.{Ample, Answers, Headline}
-use Rattle.drawing.proofs.Demands.{given-between, finished, faithful}
+use Rattle.drawing.proofs.Demands.{refused-lines, finished, faithful}
 use Rattle.drawing.proofs.SameLabels.{lines-same}
 use Rattle.drawing.proofs.Preparing.{length-labelled, labels-same}
 
@@ -56,11 +58,15 @@ none-short gates l a h =
     rw (ample-row gates l a h, le-ltb (length (l .labels)) gates (omega (arith, a .labels)), le-ltb (length (l .marks)) gates (omega (arith, a .marks)))
 
 -- reading never refuses by 10
-below-10 : {text : List ℕ} {f : Refusal} → Says text f → f .number < 10
-below-10 (too-long h) = omega arith
-below-10 (faulty-line {p = p} back fits b here given) = omega (arith, given-between p given)
-below-10 (no-end fits b h) = omega arith
-below-10 (too-heavy fits b h) = omega arith
+never-by-10 : {text : List ℕ} {f : Refusal} → Says text f → f .number ≡ 10 → ⊥
+unfolding passes
+never-by-10 (too-long h) ten = omega (arith, ten)
+never-by-10 (faulty-line {k = k} back fits b here given c) ten =
+    let other : not (eqb k 10) ≡ true = passed-by (λ j. not (eqb j 10)) (given-number given) refl in
+    let z = rw ten at other in
+    never cc
+never-by-10 (no-end fits b h) ten = omega (arith, ten)
+never-by-10 (too-heavy fits b h) ten = omega (arith, ten)
 
 -- every line of an answer is among its lines, or is none
 line-short : (ls : List (List ℕ)) (most : ℕ) → ((l : List ℕ) → List·Memᴰ l ls → length l ≤ most) → (index : ℕ) → length (line-at index ls) ≤ most
@@ -86,11 +92,6 @@ written-run ls index {out} w h =
       w .kept,
       λ more. one-fits (drop index ls) (length out) fits (omega (arith, length-drop index ls)),
     )
-
--- the lines of a text that is refused
-refused-lines : (text : List ℕ) (f : Refusal) → reading text ≡ refused f → answer-lines text ≡ refusal-lines f
-unfolding answer-lines lines-told
-refused-lines text f e = ap lines-told e
 
 refusal-told : (text : List ℕ) {f : Refusal} {p : Read} {index : ℕ} {l : Lent} {out : List ℕ} {r : Written} {row : List ℕ}
     → reading text ≡ refused f
@@ -191,9 +192,8 @@ headline text before after p a into = go (reading text) refl
         let told : p ≡ read.Refused f = into .answer ∙ unfold prepared-answer in rw q in
         all (λ index out r row t. refusal-told text q told t) (λ index out r row t. refusal-block text q told t)
         (λ g is ten.
-        let few = below-10 (reading-exactly text .refusal f .0 q) in
         let same : f ≡ g = cc in
-        omega (arith, ap (λ (k : Refusal). k .number) same))
+        never-by-10 (reading-exactly text .refusal f .0 q) (ap (λ (k : Refusal). k .number) same ∙ ten))
     go (network n) q =
         let none = none-short (size n) before a (few text n before q a) in
         let told : p ≡ read.Network (header-of n) = into .answer ∙ unfold prepared-answer in rw (q, none) in

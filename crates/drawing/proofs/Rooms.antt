@@ -18,11 +18,11 @@ use Rattle.rows.specs.declared.Header.{Header}
 use Rattle.rows.specs.Row.{places, too-short, count-in, gate-in, network-in}
 use Rattle.rows.specs.Spelling.{gate-line, row-lines}
 use Rattle.selection.specs.Selection.{delay-from}
-use Rattle.results.specs.Result.{result-lines, result-bytes, label-bytes, cluster-bytes, result-end-bytes, refusal-bytes}
+use Rattle.results.specs.Result.{result-lines, result-bytes, label-bytes, cluster-bytes, result-end-bytes}
 use Rattle.results.proofs.Lengths.{line-length, members-few}
-use Rattle.results.specs.Block.{refusal-lines}
 use Rattle.drawing.specs.Prepared.{any-short}
 use Rattle.drawing.specs.Rooms.{fan-in-count, most-room, Modest}
+use Rattle.drawing.proofs.Demands.{refusal-line-length}
 
 -- Multiplied out, the square of gates + fan-ins + 1 has each of the three in it.
 linear : (n : Network) → 64 * (size n + fan-in-count (n .gates) + 1) ≤ most-room n
@@ -85,10 +85,6 @@ module _ (n : Network) (labels roots : List ℕ) where
       (List·Memᴰ·append-cases (label-lines ++ map cluster-line roots) behind))
       (List·Memᴰ·cases-cons m)
 
-refusal-line-short : (f : Refusal) (l : List ℕ) → List·Memᴰ l (refusal-lines f) → length l ≤ 9
-unfolding refusal-bytes word-bytes
-refusal-line-short f l m = omega (arith, ap length (List·Memᴰ·eq-of-singleton m), line-length (refusal-bytes f))
-
 pub modest : (n : Network) → Modest n
 unfolding too-short any-short
 modest n =
@@ -107,5 +103,5 @@ modest n =
           );
       text-line = λ h row e l m. omega (arith, text-line-short h row l m, ap (λ (k : Network). fan-in-count (k .gates)) e);
       result-line = λ labels roots l m. omega (arith, result-line-short n labels roots l m);
-      refusal-line = λ f l m. omega (arith, refusal-line-short f l m);
+      refusal-line = λ f l m. omega (arith, refusal-line-length f l m);
     }

@@ -3,7 +3,7 @@ use Prim.Native.Nat.{ℕ, suc, _+_, _*_, _≤_, _<_}
 use mathlib.Core.Path.{_≡_}
 use mathlib.Core.Logic.{_⊎_, _↔_}
 use mathlib.Core.Bool.{true, false}
-use mathlib.Core.List.{List, List·Memᴰ}
+use mathlib.Core.List.{List, [], _∷_, _++_, List·Memᴰ}
 use lib.ListN.{length}
 use Rattle.model.specs.Basics.{_∈_, Largest}
 use Rattle.model.specs.Ceilings.{most-gates, most-label}
@@ -13,7 +13,7 @@ use Rattle.model.specs.Clustering.{Clustering, Legal, Delay, ClusteringDelay}
 use Rattle.model.specs.Label.{Counts, ReachesInside, cluster, labels, label}
 use Rattle.model.specs.Growth.{Grows, cone-gates}
 use Rattle.model.specs.Drawing.{Drawn, drawn, members, name, drawing, OutputDelay, output-delay}
-use Rattle.frames.specs.Text.{lines}
+use Rattle.frames.specs.Text.{Line, lines}
 use Rattle.frames.specs.declared.Place.the-variants.{Closed}
 use Rattle.frames.specs.declared.Refusal.{Refusal}
 use Rattle.frames.specs.Refusal.{at-line}
@@ -22,11 +22,16 @@ use Rattle.texts.specs.Says.{Before}
 use Rattle.rows.specs.Read.{answer, filled}
 use Rattle.texts.specs.Spelling.{spell-network}
 use Rattle.selection.specs.Selection.{delay-from}
+use Rattle.results.specs.Block.{refusal-lines}
 use Rattle.drawing.specs.Answer.{answer-lines, network-result}
 
 -- [B7] The longest result line: that of a cluster of 512 members.
 abbrev pub most-line : ℕ
 most-line = 2_059
+
+-- Every number that a text can be refused with: [N1], [N3] to [N10] and [N21] to [N24].
+abbrev pub numbers : List ℕ
+numbers = 1 ∷ 3 ∷ 4 ∷ 5 ∷ 6 ∷ 7 ∷ 8 ∷ 9 ∷ 10 ∷ 21 ∷ 22 ∷ 23 ∷ 24 ∷ []
 
 -- Demand 1 [T1], of a text and the row lent for it.
 pub record Finished (text row : List ℕ) : Type 0 where
@@ -34,9 +39,19 @@ pub record Finished (text row : List ℕ) : Type 0 where
   pub told :
       ((n : Network) × (answer text row ≡ network n))
       ⊎ ((f : Refusal) × (answer text row ≡ refused f))
-  -- [O1] A refusal is its number and its line. The line past the last is that of a missing end [O4].
-  pub number : (f : Refusal) → answer text row ≡ refused f → (1 ≤ f .number) × (f .number ≤ 10)
+  -- [O1] A refusal is its number, its line and its column. The line past the last is that of a missing end [O4].
+  pub number : (f : Refusal) → answer text row ≡ refused f → f .number ∈ numbers
   pub line : (f : Refusal) → answer text row ≡ refused f → f .line ≤ suc (length (lines text))
+  -- [N21] A column other than 0 comes with 21 alone, and is no larger than its line.
+  pub column : (f : Refusal) → answer text row ≡ refused f → (f .number ≡ 21) ↔ (0 < f .column)
+  pub inside :
+      (f : Refusal) → answer text row ≡ refused f
+      → (front : List Line) (l : Line) (back : List Line) → lines text ≡ front ++ (l ∷ back) → f .line ≡ suc (length front)
+      → f .column ≤ length (l .digits)
+  -- [F10] Two bytes hold the line, and two the column. [F13] A refused text is told in one line, which has 13 bytes.
+  pub held : (f : Refusal) → answer text row ≡ refused f → (f .line < 65_536) × (f .column < 65_536)
+  pub one-line : (f : Refusal) → reading text ≡ refused f → answer-lines text ≡ refusal-lines f
+  pub bytes : (f : Refusal) (l : List ℕ) → List·Memᴰ l (refusal-lines f) → length l ≡ 13
   -- [F12] At most a label line and a cluster line for each gate, a first line and a last; [B7] none of them too long.
   pub few : length (answer-lines text) ≤ 2 + 2 * most-gates
   pub short : (l : List ℕ) → List·Memᴰ l (answer-lines text) → length l ≤ most-line

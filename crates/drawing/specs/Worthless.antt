@@ -39,7 +39,7 @@ pub record Accepted (text : List ℕ) (l : Lent) (n : Network) : Type 0 where
   pub reads : reading text ≡ network n
   pub roomy : any-short (size n) l ≡ false
 
--- It refuses every text, each by any number and line.
+-- It refuses every text, each by any number, line and column.
 abbrev pub RefusesAll : Build → Type 0
 RefusesAll b = (text : List ℕ) (l : Lent) (n : Network) → Accepted text l n → (f : Refusal) × (b .prepared text l ≡ Refused f)
 

@@ -5,12 +5,14 @@ use mathlib.Core.Logic.{_↔_}
 use mathlib.Core.Bool.{Bool, true, false, cond}
 use mathlib.Core.List.{List, []}
 use lib.ListN.{length}
-use lib.Dec.{ltb}
+use lib.Dec.{leb, ltb}
+use borrow.Author.Tests.{leb-true}
 use native.Mathlib.Omega.{arith}
 use Rattle.model.specs.Network.{size}
 use Rattle.frames.specs.Refusal.{no-room}
 use Rattle.frames.specs.declared.Written.the-variants as Written
 use Rattle.frames.specs.Put.{line-answer}
+use Rattle.frames.proofs.Fault.{passes, passed-by}
 use Rattle.texts.specs.Reading.{Reading, refused, network, reading}
 use Rattle.rows.specs.declared.Header.{Header}
 use Rattle.rows.specs.Row.{too-short}
@@ -31,7 +33,7 @@ unfolding answer in-room
 text-numbered text = go (reading text) refl
   where
     go : (r : Reading) → reading text ≡ r → Numbered r
-    go (refused f) e = finished text [] .number f (rw e) .0
+    go (refused f) e = leb-true 1 (f .number) (passed-by (leb 1) (finished text [] .number f (rw e)) (unfold passes in refl))
     go (network n) e = tt
 
 row-numbered : (h : Header) (row : List ℕ) → Numbered (row-answer h row)

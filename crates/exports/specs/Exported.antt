@@ -21,13 +21,13 @@ use Rattle.exports.specs.declared.Answer.{Answer}
 abbrev pub header-from : ℕ → ℕ → ℕ → Header
 header-from capacity hop gates = record { capacity = cells capacity; hop = ticks hop; gates = gates }
 
--- [O1] A refusal is its number and its line, both as they are.
+-- [O1] A refusal is its number, its line and its column, all as they are.
 abbrev pub refused : Refusal → Answer
-refused f = record { number = f .number; line = f .line; length = 0 }
+refused f = record { number = f .number; line = f .line; column = f .column; length = 0 }
 
 -- Refusals are numbered from 1 (`label-told-0` in proofs/Zero.antt), so that 0 stands for none.
 abbrev pub done : ℕ → Answer
-done length = record { number = 0; line = 0; length = length }
+done length = record { number = 0; line = 0; column = 0; length = length }
 
 -- Labels written are no line, and have no length.
 unfoldable pub label-told : Labelled → Answer

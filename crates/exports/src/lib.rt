@@ -2,7 +2,7 @@
 // answer is a struct by value: the compiler exports a function that returns a struct only where it is `#[repr(C)]`, and hands
 // it over as C does on x86-64. The guides do not say the latter; every run of `second/` rests on it. A caller in C declares
 //
-//     struct lykophene_answer { uint8_t number; size_t line; size_t length; };
+//     struct lykophene_answer { uint8_t number; size_t line; size_t column; size_t length; };
 //     struct lykophene_answer lykophene_label(uint32_t capacity, uint16_t hop, size_t gates,
 //         const uint16_t *row, size_t row_length, uint32_t *labels, size_t labels_length);
 //     struct lykophene_answer lykophene_line(const uint8_t *text, size_t text_length, size_t index,
@@ -17,12 +17,13 @@ use units::Cells;
 use units::GateNumber;
 use units::Ticks;
 
-// A refusal's number and line, and length 0; or number and line 0, for no refusal, and the length of the line written. The line
-// is as wide as that of a refusal, so that none is cut.
+// A refusal's number, line and column, and length 0; or three times 0, for no refusal, and the length of the line written. Line and
+// column are as wide as those of a refusal, so that none is cut.
 #[repr(C)]
 pub struct Answer {
     pub number: u8,
     pub line: usize,
+    pub column: usize,
     pub length: usize,
 }
 
@@ -32,6 +33,7 @@ fn refused(refusal: Refusal) -> Answer
     Answer {
         number: refusal.number,
         line: refusal.line,
+        column: refusal.column,
         length: 0,
     }
 }
@@ -42,6 +44,7 @@ fn done(length: usize) -> Answer
     Answer {
         number: 0,
         line: 0,
+        column: 0,
         length,
     }
 }

@@ -3,19 +3,20 @@ use Prim.Native.Nat.{ℕ, _+_, _-_}
 use mathlib.Core.Path.{_≡_, sym, ap, _∙_}
 use mathlib.Core.Bool.{false, not}
 use mathlib.Core.List.{List}
+use mathlib.Core.Option.{none}
 use native.Mathlib.Omega.{arith}
 use lib.ListN.{length}
 use lib.Seq.{slice}
 use lib.Dec.{eqb}
 use borrow.Author.Tests.{eq-eqb, ne-eqb}
-use Rattle.frames.specs.declared.Place.the-variants.{Opening, AfterGates}
+use Rattle.frames.specs.declared.Place.the-variants.{AfterGates}
 use Rattle.frames.specs.declared.LineRead.the-variants.{End, Refused}
 use Rattle.frames.specs.Refusal.{at-line}
 use Rattle.frames.specs.Text.{Line}
-use Rattle.frames.specs.Table.{malformed, misplaced, wrong-length, one-too-many, unordered, miscounted, no-gates, kind, frame-length, end-count}
+use Rattle.frames.specs.Table.{misplaced, wrong-length, one-too-many, unordered, miscounted, no-gates, kind, frame-length, end-count}
 use Rattle.frames.specs.Frames.{frame, judged, byte-from, word-from}
-use Rattle.frames.specs.steps.Cut.{line-from}
-use Rattle.frames.proofs.Formed.{Formed, formed, any-place}
+use Rattle.frames.specs.steps.Cut.{line-from, form-fault}
+use Rattle.frames.proofs.Formed.{Formed, formed}
 use Rattle.frames.proofs.Rows.{judged-4, judged-7, judged-8, judged-frame}
 use Rattle.frames.proofs.OfLine.{kind-is, length-is, next-is, end-count-is}
 use Rattle.frames.proofs.AfterHeader.{gates-type}
@@ -49,12 +50,9 @@ module _ (g : ℕ) (l : Line) (is : kind l ≡ 0x0F) where
   unfolding frame
   end-frame next = rw is
 
-module _ (text : List ℕ) (at end gates line : ℕ) (formed-line : malformed Opening (line-from text at end) ≡ false) where
-  two : malformed (AfterGates gates) (line-from text at end) ≡ false
-  two = any-place (AfterGates gates) Opening (line-from text at end) ∙ formed-line
-
+module _ (text : List ℕ) (at end gates line : ℕ) (two : form-fault (line-from text at end) ≡ none) where
   form : Formed text at end
-  form = formed Opening text at end formed-line
+  form = formed text at end two
 
   module _ (is : byte-from text at ≡ 0x0F) where
     typed : kind (line-from text at end) ≡ 0x0F

@@ -41,7 +41,7 @@ fan-ins-of : (text : List ℕ) (at end : ℕ) (p : Place) (count : ℕ) → faul
 fan-ins-of text at end p count e is counted =
     let l = line-from text at end in
     let given = faultless p l e in
-    let form = formed p text at end (given .formed) in
+    let form = formed text at end (given .formed) in
     let whole : frame-length l ≡ 6 + 2 * gate-count l =
     eqb-true _ _ (second (ltb most-fanins (gate-count l)) _ (sym (gate-length p l is) ∙ given .right-length)) in
     let digits : end - at ≡ 12 + 4 * count = omega (arith, length-is form) in

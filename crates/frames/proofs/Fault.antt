@@ -1,18 +1,21 @@
--- Laws of specs/Fault.antt: the computed `fault` and the relation agree, and the number given is the lowest of those whose
--- rows hold, since the rows of the table stand by rising number.
-use Prim.Native.Nat.{ℕ, suc, _≤_}
+-- Laws of specs/Fault.antt: the computed `fault` and the relation agree; a number of the frame is the lowest of those whose
+-- rows hold, since these rows stand by rising number; and 23 stands alone.
+use Prim.Native.Nat.{ℕ, suc, _≤_, _<_}
 use mathlib.Core.Path.{_≡_, refl, sym, _∙_, ap}
-use mathlib.Core.Logic.{_↔_, ⊎-elim}
-use mathlib.Core.Bool.{Bool, true, false, _&&_}
-use mathlib.Core.List.{List, [], _∷_, _++_, List·Memᴰ, List·Memᴰ·head, List·Memᴰ·tail, List·Memᴰ·not-nil, List·Memᴰ·cases-cons, List·Memᴰ·append-cases, Memᴰ·append-right}
+use mathlib.Core.Logic.{_↔_, _⊎_, inl, inr, ⊎-elim}
+use mathlib.Core.Bool.{Bool, true, false, cond, not, _&&_}
+use mathlib.Core.List.{List, [], _∷_, _++_, map, List·Memᴰ, List·Memᴰ·head, List·Memᴰ·tail, List·Memᴰ·not-nil, List·Memᴰ·cases-cons, List·Memᴰ·eq-of-singleton, List·Memᴰ·append-cases, Memᴰ·append-right}
 use mathlib.Core.Option.{Option, none, some}
 use native.Mathlib.Omega.{arith}
-use borrow.Author.Tests.{leb-true}
-use lib.Dec.{leb}
+use borrow.Author.Tests.{leb-true, ltb-true}
+use lib.Dec.{leb, ltb, eqb}
+use Rattle.model.specs.Basics.{_∈_, member}
+use Rattle.model.proofs.Lists.{member-true, ∈-subst}
 use Rattle.frames.specs.declared.Place.{Place}
-use Rattle.frames.specs.Text.{Line}
-use Rattle.frames.specs.Table.{Row, table, first-given, fault}
-use Rattle.frames.specs.Fault.{GivenBy, FaultlessBy, Rises, LowestBy, Given, Faultless}
+use Rattle.frames.specs.Text.{Line, line-feed, begin, lines, all-digits, even}
+use Rattle.frames.specs.Table.{Row, none-there, empty, bad-digit, odd, unended, form-rows, frame-rows, table, first-given, fault}
+use Rattle.frames.specs.Fault.{GivenBy, FaultlessBy, Rises, LowestBy, Lowest, Given, Faultless, EmptyAlone}
+use Rattle.frames.specs.steps.Cut.{form-fault}
 use Rattle.frames.proofs.Tests.{never, both-true}
 
 -- Rising numbers, as a test that antt computes: the first is at least b.
@@ -45,9 +48,9 @@ rises-all b rows up =
       below = λ before row after is r m. at-least m (suc (row .number)) (rises-behind before b row after (rw is at up));
     }
 
-pub table-rises : Rises table
-unfolding table rises
-table-rises = rises-all 2 table refl
+pub frame-rows-rise : Rises frame-rows
+unfolding frame-rows rises
+frame-rows-rise = rises-all 3 frame-rows refl
 
 -- Where the rows rise, no row of a lower number holds than the one given: those in front are clear, those behind are higher.
 lowest-by : {rows : List Row} {k : ℕ} {p : Place} {l : Line} → Rises rows → GivenBy rows k p l → LowestBy rows k p l
@@ -65,12 +68,33 @@ lowest-by up g =
           (List·Memᴰ·append-cases (g .before) (rw (g .listed) at m));
     }
 
-pub given-lowest : {k : ℕ} {p : Place} {l : Line} → Given k p l → LowestBy table k p l
-given-lowest g = lowest-by table-rises g
+-- The number that is given is that of a row.
+numbers : List Row → List ℕ
+numbers rows = map (λ (r : Row). r .number) rows
 
--- The row that is given is one of the table's.
-pub given-listed : {rows : List Row} {k : ℕ} {p : Place} {l : Line} → (g : GivenBy rows k p l) → List·Memᴰ (g .row) rows
-given-listed g = rw (g .listed) (Memᴰ·append-right (g .before) (List·Memᴰ·head refl))
+number-listed : {r : Row} {rows : List Row} → List·Memᴰ r rows → r .number ∈ numbers rows
+unfolding numbers
+number-listed (List·Memᴰ·head e) = List·Memᴰ·head (ap (λ (r : Row). r .number) e)
+number-listed (List·Memᴰ·tail m) = List·Memᴰ·tail (number-listed m)
+
+given-listed : {rows : List Row} {k : ℕ} {p : Place} {l : Line} → GivenBy rows k p l → k ∈ numbers rows
+given-listed {rows} g =
+    let here : List·Memᴰ (g .row) rows = rw (g .listed) (Memᴰ·append-right (g .before) (List·Memᴰ·head refl)) in
+    ∈-subst (g .numbered) (number-listed here)
+
+-- A test that antt computes of every number of a list holds of each.
+unfoldable pub passes : (ℕ → Bool) → List ℕ → Bool
+passes test [] = true
+passes test (k ∷ ks) = test k && passes test ks
+
+pub passed-by : (test : ℕ → Bool) {k : ℕ} {ks : List ℕ} → k ∈ ks → passes test ks ≡ true → test k ≡ true
+unfolding passes
+passed-by test (List·Memᴰ·head {x = j} {xs = ks} e) all = rw e (both-true (test j) (passes test ks) all .0)
+passed-by test (List·Memᴰ·tail {x = j} {xs = ks} m) all = passed-by test m (both-true (test j) (passes test ks) all .1)
+
+-- Every number of a list is one of another.
+pub among : {k : ℕ} (ks js : List ℕ) → k ∈ ks → passes (λ j. member j js) ks ≡ true → k ∈ js
+among {k} ks js m all = member-true k js (passed-by (λ j. member j js) m all)
 
 -- the number of a row that holds, before all others
 first-yes : (r : Row) (rs : List Row) (p : Place) (l : Line) → r .given p l ≡ true → first-given (r ∷ rs) p l ≡ some (r .number)
@@ -163,3 +187,84 @@ fault-given k p l = (first-some p l k table, some-first p l k table)
 pub fault-none : (p : Place) (l : Line) → (fault p l ≡ none) ↔ Faultless p l
 unfolding fault
 fault-none p l = (first-none p l table, none-first p l table)
+
+-- Which numbers the table has.
+pub given-number : {k : ℕ} {p : Place} {l : Line} → Given k p l → k ∈ (23 ∷ 21 ∷ 22 ∷ 24 ∷ 3 ∷ 4 ∷ 5 ∷ 6 ∷ 7 ∷ 8 ∷ [])
+unfolding table numbers
+given-number g = given-listed g
+
+form-number : {k : ℕ} {p : Place} {l : Line} → GivenBy form-rows k p l → 21 ≤ k
+unfolding form-rows numbers passes
+form-number {k} g = leb-true 21 k (passed-by (leb 21) (given-listed g) refl)
+
+frame-number : {k : ℕ} {p : Place} {l : Line} → GivenBy frame-rows k p l → k < 21
+unfolding frame-rows numbers passes
+frame-number {k} g = ltb-true k 21 (passed-by (λ j. ltb j 21) (given-listed g) refl)
+
+-- The table is the rows of the form, and where none of them holds those of the frame.
+unfoldable pub or-else : Option ℕ → Option ℕ → Option ℕ
+or-else none o = o
+or-else (some k) o = some k
+
+first-append : (p : Place) (l : Line) (rs qs : List Row) → first-given (rs ++ qs) p l ≡ or-else (first-given rs p l) (first-given qs p l)
+unfolding first-given or-else
+first-append p l [] qs = refl
+first-append p l (r ∷ rs) qs = go (r .given p l) (first-append p l rs qs)
+  where
+    go : (t : Bool) → first-given (rs ++ qs) p l ≡ or-else (first-given rs p l) (first-given qs p l)
+        → cond t (some (r .number)) (first-given (rs ++ qs) p l) ≡ or-else (cond t (some (r .number)) (first-given rs p l)) (first-given qs p l)
+    go true e = refl
+    go false e = e
+
+pub form-first : (p : Place) (l : Line) → fault p l ≡ or-else (form-fault l) (first-given frame-rows p l)
+unfolding fault form-fault form-rows first-given empty bad-digit odd unended table
+form-first p l = first-append p l form-rows frame-rows
+
+module _ (k : ℕ) (p : Place) (l : Line) where
+  form-or-frame : Given k p l → GivenBy form-rows k p l ⊎ (FaultlessBy form-rows p l × GivenBy frame-rows k p l)
+  unfolding table or-else
+  form-or-frame g = go (first-given form-rows p l) refl (sym (first-append p l form-rows frame-rows) ∙ some-first p l k table g)
+    where
+      go : (o : Option ℕ) → first-given form-rows p l ≡ o → or-else o (first-given frame-rows p l) ≡ some k
+          → GivenBy form-rows k p l ⊎ (FaultlessBy form-rows p l × GivenBy frame-rows k p l)
+      go none is e = inr (first-none p l form-rows is, first-some p l k frame-rows e)
+      go (some j) is e = inl (first-some p l k form-rows (is ∙ e))
+
+  -- From 21 on the numbers are those of the form.
+  pub form-given : 21 ≤ k → Given k p l ↔ (form-fault l ≡ some k)
+  unfolding form-fault form-rows first-given empty bad-digit odd unended table or-else
+  form-given more = (
+    λ g. ⊎-elim (λ f. some-first p l k form-rows f) (λ (clear, f). absurd (omega (arith, frame-number f))) (form-or-frame g),
+    λ e. first-some p l k table (first-append p l form-rows frame-rows ∙ rw e),
+  )
+
+  pub given-lowest : Given k p l → k < 21 → Lowest k p l
+  given-lowest g less =
+      ⊎-elim (λ f. absurd (omega (arith, form-number f))) (λ (clear, f). record { form = clear; frame = lowest-by frame-rows-rise f }) (form-or-frame g)
+
+-- A line of a text has digits, or is ended.
+ended-empty : (text : List ℕ) (l : Line) → List·Memᴰ l (lines text) → l .digits ≡ [] → l .ended ≡ true
+unfolding lines begin
+ended-empty [] l m e = absurd (List·Memᴰ·not-nil m)
+ended-empty (b ∷ bs) l m e = go (eqb b line-feed) (ended-empty bs l) m
+  where
+    front : (ls : List Line) → (List·Memᴰ l ls → l .digits ≡ [] → l .ended ≡ true) → List·Memᴰ l (begin b ls) → l .ended ≡ true
+    front [] later m = let q = List·Memᴰ·eq-of-singleton m in never (cc (ap (λ (k : Line). k .digits) q))
+    front (k ∷ ls) later m =
+        ⊎-elim (λ (q : l ≡ _). never (cc (ap (λ (k : Line). k .digits) q))) (λ (m′ : List·Memᴰ l ls). later (List·Memᴰ·tail m′) e) (List·Memᴰ·cases-cons m)
+
+    go : (t : Bool) → (List·Memᴰ l (lines bs) → l .digits ≡ [] → l .ended ≡ true)
+        → List·Memᴰ l (cond t (record { digits = []; ended = true } ∷ lines bs) (begin b (lines bs))) → l .ended ≡ true
+    go true later m =
+        ⊎-elim (λ (q : l ≡ _). ap (λ (k : Line). k .ended) q) (λ (m′ : List·Memᴰ l (lines bs)). later m′ e) (List·Memᴰ·cases-cons m)
+    go false later m = front (lines bs) later m
+
+pub empty-alone : EmptyAlone
+unfolding empty bad-digit odd unended none-there
+empty-alone text p l m t =
+    let none-left : l .digits ≡ [] = nothing (l .digits) t in
+    (rw none-left (unfold all-digits in refl), rw none-left (unfold even in refl), rw (ended-empty text l m none-left))
+  where
+    nothing : (ds : List ℕ) → none-there ds ≡ true → ds ≡ []
+    nothing [] t = refl
+    nothing (d ∷ ds) t = never cc

@@ -1,69 +1,124 @@
--- Row 2 as the code tests it: a line is malformed where it is empty, not ended, of an odd length or holds no digit; and
--- what a line that is not malformed is known to be.
-use Prim.Native.Nat.{ℕ, _-_, _%_, _≤_, _<_}
+-- The form of a line: what its four rows say of a line that is cut out of the text, and what is known of a line that none of them
+-- is given.
+use Prim.Native.Nat.{ℕ, suc, _+_, _-_, _%_, _≤_, _<_}
 use mathlib.Core.Path.{_≡_, refl, sym, _∙_}
-use mathlib.Core.Bool.{Bool, true, false, not, _||_, or-true, or-false}
+use mathlib.Core.Bool.{true, false, cond, not}
 use mathlib.Core.List.{List}
+use mathlib.Core.Option.{Option, none, some}
+use native.Mathlib.Decide.{decLt}
 use native.Mathlib.Omega.{arith}
 use lib.ListN.{length, take, length-take, drop-of-length-le}
 use lib.Seq.{slice, slice-cons, length-slice}
-use lib.Dec.{ltb}
-use borrow.Author.Tests.{ltb-true, ltb-false, lt-ltb, le-ltb, eqb-true, eqb-false, eq-eqb, ne-eqb}
-use Rattle.frames.specs.declared.Place.{Place}
-use Rattle.frames.specs.Text.{Line, all-digits, even}
-use Rattle.frames.specs.Table.{none-there, malformed}
-use Rattle.frames.specs.steps.Cut.{line-from}
+use borrow.Author.Tests.{ltb-true, lt-ltb, le-ltb, eqb-true, eq-eqb, ne-eqb, not-false}
+use Rattle.frames.specs.declared.Form.the-variants.{Right, Wrong}
+use Rattle.frames.specs.Refusal.{at-column, at-line}
+use Rattle.frames.specs.Text.{Line, all-digits, digits-before, even}
+use Rattle.frames.specs.Table.{none-there, column}
+use Rattle.frames.specs.steps.Cut.{line-from, form-told, form-found, form-fault}
+use Rattle.frames.proofs.Tests.{never, passed}
 use Rattle.frames.proofs.Bytes.{even-length}
+use Rattle.frames.proofs.Column.{before-all, before-some}
 
+-- the four tests, one choice after the other
+pub tests : (l : Line) → form-fault l
+    ≡ cond (none-there (l .digits)) (some 23)
+    (cond (not (all-digits (l .digits))) (some 21) (cond (not (even (l .digits))) (some 22) (cond (not (l .ended)) (some 24) none)))
+unfolding form-fault
+tests l = refl
+
+-- A line whose form is right.
+pub record WellFormed (l : Line) : Type 0 where
+  pub begun : none-there (l .digits) ≡ false
+  pub spelled : all-digits (l .digits) ≡ true
+  pub evenly : even (l .digits) ≡ true
+  pub ended : l .ended ≡ true
+
+pub well-formed : (l : Line) → form-fault l ≡ none → WellFormed l
+well-formed l e =
+    let a = passed _ _ _ (sym (tests l) ∙ e) in
+    let b = passed _ _ _ (a .1) in
+    let c = passed _ _ _ (b .1) in
+    record {
+      begun = a .0;
+      spelled = not-false _ (b .0);
+      evenly = not-false _ (c .0);
+      ended = not-false _ (passed _ _ _ (c .1) .0);
+    }
+
+pub right-form : (l : Line) → WellFormed l → form-fault l ≡ none
+right-form l w = rw (tests l, w .begun, w .spelled, w .evenly, w .ended)
+
+-- A line of which nothing is found.
+pub nothing-found : (line : ℕ) (l : Line) → form-found line l ≡ Right → form-fault l ≡ none
+unfolding form-found
+nothing-found line l e = by (form-fault l) e
+  where
+    by : (o : Option ℕ) → form-told o line l ≡ Right → o ≡ none
+    by none e = refl
+    by (some k) e = never cc
+
+-- The same of the line from `at` up to `end`, in the words of the code.
 pub record Formed (text : List ℕ) (at end : ℕ) : Type 0 where
   pub begun : at < end
   pub ended : end < length text
   pub whole : (end - at) % 2 ≡ 0
+  pub spelled : all-digits (slice at end text) ≡ true
 
--- the four tests, by any place
-tests : (p : Place) (text : List ℕ) (at end : ℕ) → malformed p (line-from text at end)
-    ≡ (none-there (slice at end text) || not (all-digits (slice at end text)) || not (even (slice at end text)) || not (ltb end (length text)))
-unfolding malformed
-tests p text at end = refl
-
-pub any-place : (p q : Place) (l : Line) → malformed p l ≡ malformed q l
-unfolding malformed
-any-place p q l = refl
-
--- A test that only a malformed line fails is passed by one that is not.
-passed : {m : Bool} (b : Bool) → m ≡ false → (b ≡ false → m ≡ true) → b ≡ true
-passed true e f = refl
-passed false e f = sym e ∙ f refl
-
-module _ (p : Place) (text : List ℕ) (at end : ℕ) where
-  pub malformed-empty : end ≤ at → malformed p (line-from text at end) ≡ true
+module _ (text : List ℕ) (at end : ℕ) where
+  nothing-there : end ≤ at → none-there (slice at end text) ≡ true
   unfolding none-there
-  malformed-empty h = rw (tests p text at end, drop-of-length-le (take end text) {i = at} (simp length-take (omega arith)))
+  nothing-there h = rw (drop-of-length-le (take end text) {i = at} (simp length-take (omega arith)))
 
-  pub malformed-open : length text ≤ end → malformed p (line-from text at end) ≡ true
-  malformed-open h = rw (tests p text at end, le-ltb end (length text) h, or-true)
-
-  pub malformed-odd : at < end → end ≤ length text → ((end - at) % 2 ≡ 0 → ⊥) → malformed p (line-from text at end) ≡ true
-  malformed-odd b h e =
-      rw (tests p text at end, even-length (slice at end text), length-slice at end text h, ne-eqb ((end - at) % 2) 0 e, or-true)
-
-  some-there : at < end → end ≤ length text → none-there (slice at end text) ≡ false
-  unfolding none-there
-  some-there b h = rw (slice-cons at end text 0 b h)
-
-  pub malformed-digits : Formed text at end → malformed p (line-from text at end) ≡ not (all-digits (slice at end text))
-  malformed-digits f =
-      let h : end ≤ length text = omega arith in
-      rw
-      (tests p text at end, some-there (f .begun) h, even-length (slice at end text), length-slice at end text h, eq-eqb ((end - at) % 2) 0 (f .whole), lt-ltb end (length text) (f .ended))
-      (or-false _ ∙ or-false _)
-
-  pub formed : malformed p (line-from text at end) ≡ false → Formed text at end
+  pub formed : form-fault (line-from text at end) ≡ none → Formed text at end
   formed e =
-      let begun : at < end = ltb-true at end (passed _ e (λ t. malformed-empty (ltb-false _ _ t))) in
-      let ended : end < length text = ltb-true end (length text) (passed _ e (λ t. malformed-open (ltb-false _ _ t))) in
+      let w = well-formed (line-from text at end) e in
+      let begun : at < end = elim (decLt at end) [ yes h ↦ h | no h ↦ never (cc (w .begun, nothing-there (omega arith))) ] in
+      let ended : end < length text = ltb-true end (length text) (w .ended) in
       record {
         begun = begun;
         ended = ended;
-        whole = eqb-true _ _ (passed _ e (λ t. malformed-odd begun (omega arith) (eqb-false _ _ t)));
+        whole = eqb-true _ _ (rw (even-length (slice at end text), length-slice at end text (omega arith)) at (w .evenly));
+        spelled = w .spelled;
       }
+
+  -- what is found of the form, choice by choice
+
+  pub found-empty : (line : ℕ) → end ≤ at → Wrong (at-line 23 line) ≡ form-found line (line-from text at end)
+  unfolding form-found
+  found-empty line h = rw (tests (line-from text at end), nothing-there h)
+
+  module _ (line bad : ℕ) (begun : at < end) (inside : end ≤ length text) (is : bad ≡ at + digits-before (slice at end text)) where
+    some-there : none-there (slice at end text) ≡ false
+    unfolding none-there
+    some-there = rw (slice-cons at end text 0 begun inside)
+
+    pub found-bad : bad < end → Wrong (at-column 21 line (bad - at + 1)) ≡ form-found line (line-from text at end)
+    unfolding form-found column
+    found-bad h =
+        let ds = slice at end text in
+        let wrong : all-digits ds ≡ false = before-some ds (omega (arith, length-slice at end text inside)) in
+        let place : bad - at + 1 ≡ suc (digits-before ds) = omega arith in
+        rw (tests (line-from text at end), some-there, wrong, place)
+
+    module _ (all : end ≤ bad) where
+      all-there : all-digits (slice at end text) ≡ true
+      all-there = before-all (slice at end text) (omega (arith, length-slice at end text inside))
+
+      pub found-odd : ((end - at) % 2 ≡ 0 → ⊥) → Wrong (at-line 22 line) ≡ form-found line (line-from text at end)
+      unfolding form-found
+      found-odd h =
+          rw
+          (tests (line-from text at end), some-there, all-there, even-length (slice at end text), length-slice at end text inside, ne-eqb ((end - at) % 2) 0 h)
+
+      module _ (whole : (end - at) % 2 ≡ 0) where
+        pub found-open : length text ≤ end → Wrong (at-line 24 line) ≡ form-found line (line-from text at end)
+        unfolding form-found
+        found-open h =
+            rw
+            (tests (line-from text at end), some-there, all-there, even-length (slice at end text), length-slice at end text inside, eq-eqb ((end - at) % 2) 0 whole, le-ltb end (length text) h)
+
+        pub found-right : end < length text → Right ≡ form-found line (line-from text at end)
+        unfolding form-found
+        found-right h =
+            rw
+            (tests (line-from text at end), some-there, all-there, even-length (slice at end text), length-slice at end text inside, eq-eqb ((end - at) % 2) 0 whole, lt-ltb end (length text) h)

@@ -3,6 +3,7 @@ use Prim.Native.Nat.{ℕ, _+_, _*_, _-_, _≤_, _<_}
 use mathlib.Core.Path.{_≡_, sym, ap, ap₂, _∙_}
 use mathlib.Core.Bool.{true, false, not, _||_, or-true}
 use mathlib.Core.List.{List}
+use mathlib.Core.Option.{none}
 use native.Mathlib.Omega.{arith}
 use native.Mathlib.Decide.{decLt}
 use lib.ListN.{length}
@@ -12,14 +13,14 @@ use borrow.Author.Tests.{lt-ltb, le-ltb, le-leb, lt-leb, eq-eqb, ne-eqb}
 use Rattle.model.specs.Ceilings.{most-gates, most-fanins}
 use Rattle.units.specs.Units.{cells, ticks}
 use Rattle.frames.specs.declared.Place.{Place}
-use Rattle.frames.specs.declared.Place.the-variants.{Opening, AfterGates}
+use Rattle.frames.specs.declared.Place.the-variants.{AfterGates}
 use Rattle.frames.specs.declared.LineRead.the-variants.{Gate, Refused}
 use Rattle.frames.specs.Refusal.{at-line}
 use Rattle.frames.specs.Text.{Line, bytes, words}
-use Rattle.frames.specs.Table.{malformed, misplaced, wrong-length, one-too-many, unordered, miscounted, no-gates, rising-from, kind, frame-length, gate-count, gate-fanins, gate-of}
+use Rattle.frames.specs.Table.{misplaced, wrong-length, one-too-many, unordered, miscounted, no-gates, rising-from, kind, frame-length, gate-count, gate-fanins, gate-of}
 use Rattle.frames.specs.Frames.{frame, judged, byte-from, word-from}
-use Rattle.frames.specs.steps.Cut.{line-from}
-use Rattle.frames.proofs.Formed.{Formed, formed, any-place}
+use Rattle.frames.specs.steps.Cut.{line-from, form-fault}
+use Rattle.frames.proofs.Formed.{Formed, formed}
 use Rattle.frames.proofs.Rows.{judged-4, judged-5, judged-6, judged-frame}
 use Rattle.frames.proofs.OfLine.{kind-is, length-is, next-is, count-is, weight-is, delay-is, fanins-are}
 use Rattle.frames.proofs.AfterHeader.{gates-type}
@@ -60,12 +61,9 @@ module _ (g : ℕ) (l : Line) (is : kind l ≡ 0x02) where
   unfolding frame
   gate-frame next = rw is
 
-module _ (text : List ℕ) (at end gates line : ℕ) (formed-line : malformed Opening (line-from text at end) ≡ false) where
-  two : malformed (AfterGates gates) (line-from text at end) ≡ false
-  two = any-place (AfterGates gates) Opening (line-from text at end) ∙ formed-line
-
+module _ (text : List ℕ) (at end gates line : ℕ) (two : form-fault (line-from text at end) ≡ none) where
   form : Formed text at end
-  form = formed Opening text at end formed-line
+  form = formed text at end two
 
   module _ (is : byte-from text at ≡ 0x02) where
     typed : kind (line-from text at end) ≡ 0x02

@@ -4,6 +4,7 @@ use Prim.Native.Nat.{ℕ, _+_, _-_}
 use mathlib.Core.Path.{_≡_, refl, sym, ap, _∙_}
 use mathlib.Core.Bool.{false, not}
 use mathlib.Core.List.{List}
+use mathlib.Core.Option.{none}
 use native.Mathlib.Omega.{arith}
 use lib.ListN.{length}
 use lib.Dec.{eqb}
@@ -14,9 +15,9 @@ use Rattle.frames.specs.declared.Place.the-variants.{Opening}
 use Rattle.frames.specs.declared.LineRead.the-variants.{Header, Refused}
 use Rattle.frames.specs.Refusal.{at-line}
 use Rattle.frames.specs.Text.{Line}
-use Rattle.frames.specs.Table.{malformed, misplaced, wrong-length, one-too-many, unordered, miscounted, no-gates, kind, frame-length, header-capacity, header-hop}
+use Rattle.frames.specs.Table.{misplaced, wrong-length, one-too-many, unordered, miscounted, no-gates, kind, frame-length, header-capacity, header-hop}
 use Rattle.frames.specs.Frames.{frame, judged, byte-from, word-from}
-use Rattle.frames.specs.steps.Cut.{line-from, long-from}
+use Rattle.frames.specs.steps.Cut.{line-from, long-from, form-fault}
 use Rattle.frames.proofs.Formed.{Formed, formed}
 use Rattle.frames.proofs.Rows.{judged-3, judged-4, judged-frame}
 use Rattle.frames.proofs.OfLine.{kind-is, length-is, next-is, capacity-is, hop-is}
@@ -31,7 +32,7 @@ unfolding wrong-length
 header-length p l k = simp (eq-eqb (kind l) 0x01 k)
 
 -- An opening line has nothing to fear from the later rows.
-opening-frame : (at line : ℕ) (l : Line) → malformed Opening l ≡ false → misplaced Opening l ≡ false → wrong-length Opening l ≡ false
+opening-frame : (at line : ℕ) (l : Line) → form-fault l ≡ none → misplaced Opening l ≡ false → wrong-length Opening l ≡ false
     → judged at Opening line l ≡ frame l (at + length (l .digits) + 1)
 unfolding one-too-many unordered miscounted no-gates
 opening-frame at line l two three four = judged-frame at Opening line l two three four refl refl refl refl
@@ -44,9 +45,9 @@ header-frame l next k = simp (eq-eqb (kind l) 0x01 k)
 pub same-header : {c c′ h h′ : ℕ} (next : ℕ) → c ≡ c′ → h ≡ h′ → Header (cells c) (ticks h) next ≡ Header (cells c′) (ticks h′) next
 same-header next p q = λ i. Header (cells (p i)) (ticks (q i)) next
 
-module _ (text : List ℕ) (at end line : ℕ) (two : malformed Opening (line-from text at end) ≡ false) where
+module _ (text : List ℕ) (at end line : ℕ) (two : form-fault (line-from text at end) ≡ none) where
   form : Formed text at end
-  form = formed Opening text at end two
+  form = formed text at end two
 
   pub header-3 : (byte-from text at ≡ 0x01 → ⊥) → Refused (at-line 3 line) ≡ judged at Opening line (line-from text at end)
   header-3 h =

@@ -1,6 +1,7 @@
 -- Laws of the table; what the code reads of a line is what the line says; lines with the numbers that they are given;
 -- digits and numbers, and what the puts write.
 pub mod Tests
+pub mod Column
 pub mod Fault
 mod Cases
 pub mod Numbers
@@ -8,6 +9,7 @@ pub mod Walks
 pub mod Bytes
 pub mod Rows
 pub mod Formed
+pub mod FormExactly
 pub mod OfLine
 pub mod Header
 pub mod AfterHeader

@@ -3,17 +3,17 @@ use Prim.Native.Nat.{ℕ, suc, _+_, _*_, _-_, _/_, _≤_, _<_}
 use mathlib.Core.Path.{_≡_, refl, sym, ap, ap₂, _∙_}
 use mathlib.Core.Bool.{true, false}
 use mathlib.Core.List.{List}
+use mathlib.Core.Option.{none}
 use native.Mathlib.Omega.{arith}
 use lib.ListN.{length, getD, drop, take, length-drop}
 use lib.Seq.{slice, length-slice, getD-drop, drop-drop}
-use borrow.Author.Tests.{not-false}
 use Rattle.model.specs.Ceilings.{most-weight, most-delay, most-hop}
 use Rattle.frames.specs.declared.Place.the-variants.{Opening}
-use Rattle.frames.specs.Text.{all-digits, bytes, word-at, words}
-use Rattle.frames.specs.Table.{malformed, kind, frame-length, header-capacity, header-hop, gate-count, gate-fanins, gate-of, end-count}
+use Rattle.frames.specs.Text.{bytes, word-at, words}
+use Rattle.frames.specs.Table.{kind, frame-length, header-capacity, header-hop, gate-count, gate-fanins, gate-of, end-count}
 use Rattle.frames.specs.Frames.{byte-from, word-from, fan-in-from}
-use Rattle.frames.specs.steps.Cut.{line-from, long-from}
-use Rattle.frames.proofs.Formed.{Formed, formed, malformed-digits}
+use Rattle.frames.specs.steps.Cut.{line-from, long-from, form-fault}
+use Rattle.frames.proofs.Formed.{Formed, formed}
 use Rattle.frames.proofs.Bytes.{length-bytes, drop-bytes, length-words, line-byte, line-word, line-long, word-here}
 use Rattle.frames.proofs.Digits.{bytes-below, word-below}
 
@@ -80,17 +80,16 @@ module _ {text : List ℕ} {at end : ℕ} (f : Formed text at end) where
         ∙ ap₂ (λ x y. 256 * x + y) (getD-drop 6 bs (2 * i) 0) (getD-drop 6 bs (suc (2 * i)) 0 ∙ ap (λ n. getD bs n 0) (omega arith))
         ∙ line-word text at end fits (6 + 2 * i) (at + 12 + 4 * i) (omega arith) (omega arith)
 
--- Two bytes of a line that is not malformed say at most 65,535, since each of its digits counts below 16. So no weight, no delay and
+-- Two bytes of a well-formed line say at most 65,535, since each of its digits counts below 16. So no weight, no delay and
 -- no D that a line says lies above its ceiling.
-module _ (text : List ℕ) (at end : ℕ) (two : malformed Opening (line-from text at end) ≡ false) where
+module _ (text : List ℕ) (at end : ℕ) (two : form-fault (line-from text at end) ≡ none) where
   form : Formed text at end
-  form = formed Opening text at end two
+  form = formed text at end two
 
   word-most : (i k : ℕ) → k ≡ at + 2 * i → k + 3 < end → word-from text k ≤ 65_535
   word-most i k e h =
       let ds = slice at end text in
-      let spelled : all-digits ds ≡ true = not-false (all-digits ds) (sym (malformed-digits Opening text at end form) ∙ two) in
-      omega (arith, line-word text at end (fits form) i k e h, word-below (bytes ds) i (bytes-below ds spelled))
+      omega (arith, line-word text at end (fits form) i k e h, word-below (bytes ds) i (bytes-below ds (form .spelled)))
 
   pub hop-most : end - at ≡ 14 → word-from text (at + 10) ≤ most-hop
   hop-most e = word-most 5 (at + 10) (omega arith) (omega arith)

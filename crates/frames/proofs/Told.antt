@@ -20,9 +20,9 @@ use Rattle.frames.specs.declared.Place.{Place}
 use Rattle.frames.specs.declared.LineRead.{LineRead}
 use Rattle.frames.specs.declared.LineRead.the-variants.{Header, Gate, End, Refused, Nothing}
 use Rattle.frames.specs.declared.Refusal.{Refusal}
-use Rattle.frames.specs.Refusal.{at-line}
+use Rattle.frames.specs.Refusal.{at-column}
 use Rattle.frames.specs.Text.{Line, lines}
-use Rattle.frames.specs.Table.{fault, kind, header-capacity, header-hop, gate-of, gate-count}
+use Rattle.frames.specs.Table.{fault, column, kind, header-capacity, header-hop, gate-of, gate-count}
 use Rattle.frames.specs.Frames.{frame, told, judged, line-read}
 use Rattle.frames.specs.steps.Cut.{line-from, line-length}
 use Rattle.frames.proofs.Tests.{never}
@@ -48,12 +48,13 @@ pub record FrameRead (text : List ℕ) (at : ℕ) (p : Place) (next : ℕ) (r : 
   pub onward : at < next
   pub inside : next ≤ length text
 
--- The first line of those left has this fault.
-pub record FaultRead (text : List ℕ) (at : ℕ) (p : Place) (number : ℕ) : Type 0 where
+-- The first line of those left has this fault, told at this number of a line.
+pub record FaultRead (text : List ℕ) (at : ℕ) (p : Place) (at-number : ℕ) (r : Refusal) : Type 0 where
   pub line : Line
   pub rest : List Line
   pub first : lines (drop at text) ≡ line ∷ rest
-  pub wrong : fault p line ≡ some number
+  pub wrong : fault p line ≡ some (r .number)
+  pub told-there : r ≡ at-column (r .number) at-number (column (r .number) line)
 
 -- A frame is the one that its type says.
 pub data Typed (l : Line) (n : ℕ) (r : LineRead) : Type 0 where
@@ -82,21 +83,22 @@ frame-next l n = by (typed l n)
     by (end k h e) = ap next-of e
 
 -- an answer with a next line was judged to have no fault, and one without was not
-none-told : (o : Option ℕ) (line : ℕ) (f r : LineRead) (next : ℕ) → told o line f ≡ r → next-of r ≡ some next → (o ≡ none) × (f ≡ r)
+none-told : (o : Option ℕ) (line : ℕ) (l : Line) (f r : LineRead) (next : ℕ) → told o line l f ≡ r → next-of r ≡ some next
+    → (o ≡ none) × (f ≡ r)
 unfolding told
-none-told none line f r next e n = (refl, e)
-none-told (some k) line f r next e n = never (cc (ap next-of e))
+none-told none line l f r next e n = (refl, e)
+none-told (some k) line l f r next e n = never (cc (ap next-of e))
 
-some-told : (o : Option ℕ) (line : ℕ) (f : LineRead) (n : ℕ) (r : Refusal) → next-of f ≡ some n → told o line f ≡ Refused r
-    → (o ≡ some (r .number)) × (r ≡ at-line (r .number) line)
+some-told : (o : Option ℕ) (line : ℕ) (l : Line) (f : LineRead) (n : ℕ) (r : Refusal) → next-of f ≡ some n → told o line l f ≡ Refused r
+    → (o ≡ some (r .number)) × (r ≡ at-column (r .number) line (column (r .number) l))
 unfolding told
-some-told none line f n r h e = never cc
-some-told (some j) line f n r h e = let same : at-line j line ≡ r = cc in rw (← same) (refl, refl)
+some-told none line l f n r h e = never cc
+some-told (some j) line l f n r h e = let same : at-column j line (column j l) ≡ r = cc in rw (← same) (refl, refl)
 
-nothing-judged : (o : Option ℕ) (line : ℕ) (f : LineRead) (n : ℕ) → next-of f ≡ some n → told o line f ≡ Nothing → ⊥
+nothing-judged : (o : Option ℕ) (line : ℕ) (l : Line) (f : LineRead) (n : ℕ) → next-of f ≡ some n → told o line l f ≡ Nothing → ⊥
 unfolding told
-nothing-judged none line f n h e = never cc
-nothing-judged (some j) line f n h e = never cc
+nothing-judged none line l f n h e = never cc
+nothing-judged (some j) line l f n h e = never cc
 
 module _ (text : List ℕ) (at : ℕ) (p : Place) (line : ℕ) where
   -- no line is left, or there is a first one
@@ -109,8 +111,8 @@ module _ (text : List ℕ) (at : ℕ) (p : Place) (line : ℕ) where
       let end = at + line-length (drop at text) in
       let l = line-from text at end in
       let m = at + length (slice at end text) + 1 in
-      let given = none-told (fault p l) line (frame l m) r next (sym (read-first text at end h refl p line) ∙ e) n in
-      let form = formed p text at end (faultless p l (given .0) .formed) in
+      let given = none-told (fault p l) line l (frame l m) r next (sym (read-first text at end h refl p line) ∙ e) n in
+      let form = formed text at end (faultless p l (given .0) .formed) in
       let same : m ≡ next = cc (frame-next l m, ap next-of (given .1)) in
       let behind : end + 1 ≡ next = sym (next-is form) ∙ same in
       record {
@@ -125,18 +127,22 @@ module _ (text : List ℕ) (at : ℕ) (p : Place) (line : ℕ) where
   pub frame-told : (r : LineRead) (next : ℕ) → line-read text at p line ≡ r → next-of r ≡ some next → FrameRead text at p next r
   frame-told r next e n = ⊎-elim (λ h. never (cc (read-past text at p line h))) (λ h. there h r next e n) left
 
-  refused-there : at < length text → (r : Refusal) → line-read text at p line ≡ Refused r
-      → FaultRead text at p (r .number) × (r ≡ at-line (r .number) line)
+  refused-there : at < length text → (r : Refusal) → line-read text at p line ≡ Refused r → FaultRead text at p line r
   unfolding judged
   refused-there h r e =
       let end = at + line-length (drop at text) in
       let l = line-from text at end in
       let n = at + length (slice at end text) + 1 in
-      let given = some-told (fault p l) line (frame l n) n r (frame-next l n) (sym (read-first text at end h refl p line) ∙ e) in
-      (record { line = l; rest = lines (drop (end + 1) text); first = lines-from text at end h refl; wrong = given .0 }, given .1)
+      let given = some-told (fault p l) line l (frame l n) n r (frame-next l n) (sym (read-first text at end h refl p line) ∙ e) in
+      record {
+        line = l;
+        rest = lines (drop (end + 1) text);
+        first = lines-from text at end h refl;
+        wrong = given .0;
+        told-there = given .1;
+      }
 
-  pub refused-told : (r : Refusal) → line-read text at p line ≡ Refused r
-      → FaultRead text at p (r .number) × (r ≡ at-line (r .number) line)
+  pub refused-told : (r : Refusal) → line-read text at p line ≡ Refused r → FaultRead text at p line r
   refused-told r e = ⊎-elim (λ h. never (cc (read-past text at p line h))) (λ h. refused-there h r e) left
 
   nothing-there : at < length text → line-read text at p line ≡ Nothing → ⊥
@@ -145,7 +151,7 @@ module _ (text : List ℕ) (at : ℕ) (p : Place) (line : ℕ) where
       let end = at + line-length (drop at text) in
       let l = line-from text at end in
       let n = at + length (slice at end text) + 1 in
-      nothing-judged (fault p l) line (frame l n) n (frame-next l n) (sym (read-first text at end h refl p line) ∙ e)
+      nothing-judged (fault p l) line l (frame l n) n (frame-next l n) (sym (read-first text at end h refl p line) ∙ e)
 
   pub nothing-told : line-read text at p line ≡ Nothing → lines (drop at text) ≡ []
   unfolding lines

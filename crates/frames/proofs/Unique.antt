@@ -3,6 +3,7 @@ use mathlib.Core.Path.{refl}
 use denote.Ref.{now}
 use Rattle.units.specs.Outcome.{OneOutcome}
 use Rattle.units.proofs.Unique.{same}
+use Rattle.frames.proofs.Refusal.at_column.Reads as refusal-at-column
 use Rattle.frames.proofs.Refusal.at_line.Reads as refusal-at-line
 use Rattle.frames.proofs.Refusal.at_no_line.Reads as refusal-at-no-line
 use Rattle.frames.proofs.Refusal.no_room.Reads as refusal-no-room
@@ -15,6 +16,9 @@ use Rattle.frames.proofs.put.put_words.Reads as put-put-words
 use Rattle.frames.proofs.put.feed.Reads as put-feed
 
 -- Passed by value, or lent by `&`: nothing of the arguments changes, and the result is the whole outcome.
+
+pub refusal-at-column-unique : OneOutcome refusal-at-column.Learnt (λ κs exit. tt {0})
+refusal-at-column-unique κs args r s exit exit′ p q = (same p q, refl)
 
 pub refusal-at-line-unique : OneOutcome refusal-at-line.Learnt (λ κs exit. tt {0})
 refusal-at-line-unique κs args r s exit exit′ p q = (same p q, refl)

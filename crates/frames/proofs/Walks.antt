@@ -1,4 +1,4 @@
--- What a walk along the text leaves to do: a line's length, and whether digits are left to test.
+-- What a walk along the text leaves to do: a line's length, and the digits before the first byte that is none.
 use Prim.Native.Nat.{ℕ, suc, _+_, _≤_, _<_}
 use mathlib.Core.Path.{_≡_, refl, sym, ap, _∙_}
 use mathlib.Core.Bool.{true, false, and-false}
@@ -8,10 +8,11 @@ use native.Mathlib.Omega.{arith}
 use lib.ListN.{length, getD, drop, take, drop-of-length-le, length-take}
 use lib.Seq.{drop-cons, slice, slice-cons, length-slice}
 use borrow.Author.Tests.{eq-eqb, ne-eqb, lt-ltb, le-ltb, le-leb, lt-leb}
-use Rattle.frames.specs.Text.{line-feed, digit, all-digits, bytes, words}
+use Rattle.frames.specs.Text.{line-feed, digit, digits-before, bytes, words}
 use Rattle.frames.specs.Table.{rising-from}
 use Rattle.frames.specs.Frames.{word-from}
 use Rattle.frames.specs.steps.Cut.{line-length}
+use Rattle.frames.proofs.Column.{digit-more, digit-none}
 use Rattle.frames.proofs.Bytes.{length-bytes, length-words}
 
 pub length-past : (text : List ℕ) (i : ℕ) → length text ≤ i → line-length (drop i text) ≡ 0
@@ -27,19 +28,17 @@ pub length-more : (text : List ℕ) (i : ℕ) → i < length text → (getD text
 unfolding line-length
 length-more text i h e = rw (drop-cons text i 0 h, add-one) (simp (ne-eqb (getD text i 0) line-feed e))
 
-pub digits-none : (text : List ℕ) (i end : ℕ) → end ≤ i → all-digits (slice i end text) ≡ true
-unfolding all-digits
-digits-none text i end h = rw (drop-of-length-le (take end text) {i = i} (simp length-take (omega arith)))
+pub before-past : (text : List ℕ) (i end : ℕ) → end ≤ i → digits-before (slice i end text) ≡ 0
+unfolding digits-before
+before-past text i end h = rw (drop-of-length-le (take end text) {i = i} (simp length-take (omega arith)))
 
-pub digits-more : (text : List ℕ) (i end : ℕ) → i < end → end ≤ length text → digit (getD text i 0) < 16
-    → all-digits (slice i end text) ≡ all-digits (slice (i + 1) end text)
-unfolding all-digits
-digits-more text i end h k d = rw (slice-cons i end text 0 h k, add-one) (simp (lt-ltb (digit (getD text i 0)) 16 d))
+pub before-bad : (text : List ℕ) (i end : ℕ) → i < end → end ≤ length text → digit (getD text i 0) ≡ 16
+    → digits-before (slice i end text) ≡ 0
+before-bad text i end h k d = rw (slice-cons i end text 0 h k) (digit-none (getD text i 0) (slice (suc i) end text) d)
 
-pub digits-bad : (text : List ℕ) (i end : ℕ) → i < end → end ≤ length text → digit (getD text i 0) ≡ 16
-    → all-digits (slice i end text) ≡ false
-unfolding all-digits
-digits-bad text i end h k d = rw (slice-cons i end text 0 h k) (simp (le-ltb (digit (getD text i 0)) 16 (omega arith)))
+pub before-more : (text : List ℕ) (i end : ℕ) → i < end → end ≤ length text → digit (getD text i 0) < 16
+    → digits-before (slice i end text) ≡ suc (digits-before (slice (i + 1) end text))
+before-more text i end h k d = rw (slice-cons i end text 0 h k, add-one) (digit-more (getD text i 0) (slice (suc i) end text) d)
 
 words-none : (text : List ℕ) (k end : ℕ) → end < k + 4 → end ≤ length text → words (bytes (slice k end text)) ≡ []
 words-none text k end h fits =

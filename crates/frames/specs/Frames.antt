@@ -9,9 +9,9 @@ use Rattle.units.specs.Units.{cells, ticks}
 use Rattle.frames.specs.declared.Place.{Place}
 use Rattle.frames.specs.declared.LineRead.{LineRead}
 use Rattle.frames.specs.declared.LineRead.the-variants.{Header, Gate, End, Refused, Nothing}
-use Rattle.frames.specs.Refusal.{at-line}
+use Rattle.frames.specs.Refusal.{at-column}
 use Rattle.frames.specs.Text.{Line, lines, digit}
-use Rattle.frames.specs.Table.{kind, header-capacity, header-hop, gate-of, gate-count, fault}
+use Rattle.frames.specs.Table.{kind, header-capacity, header-hop, gate-of, gate-count, fault, column}
 
 -- The frame that a line without fault is, and where the next line begins.
 unfoldable pub frame : Line → ℕ → LineRead
@@ -22,15 +22,16 @@ frame l next =
     (Gate (cells (gate-of l .weight)) (ticks (gate-of l .delay)) (record { 0 = gate-count l }) next)
     (End next))
 
--- A fault is told at its line.
-unfoldable pub told : Option ℕ → ℕ → LineRead → LineRead
-told none line r = r
-told (some k) line r = Refused (at-line k line)
+-- A fault is told at its line, with its column.
+unfoldable pub told : Option ℕ → ℕ → Line → LineRead → LineRead
+unfolding column
+told none line l r = r
+told (some k) line l r = Refused (at-column k line (column k l))
 
 -- What a line answers that begins at a place of the text: the next begins behind its line feed.
 unfoldable pub judged : ℕ → Place → ℕ → Line → LineRead
 unfolding frame told fault
-judged at p line l = told (fault p l) line (frame l (at + length (l .digits) + 1))
+judged at p line l = told (fault p l) line l (frame l (at + length (l .digits) + 1))
 
 -- Of the lines that are left, the first is read.
 unfoldable pub first-read : ℕ → Place → ℕ → List Line → LineRead

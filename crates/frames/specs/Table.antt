@@ -1,7 +1,7 @@
 -- The table of refusals: the rows that speak of one line, each a test of a line where it stands, and what picks among them.
 use Prim.Native.Nat.{ℕ, suc, _+_, _*_}
 use mathlib.Core.Bool.{Bool, true, false, cond, not, _&&_, _||_}
-use mathlib.Core.List.{List, [], _∷_}
+use mathlib.Core.List.{List, [], _∷_, _++_}
 use mathlib.Core.Option.{Option, none, some}
 use lib.ListN.{length, getD, drop}
 use lib.Dec.{leb, ltb, eqb}
@@ -9,7 +9,7 @@ use Rattle.model.specs.Ceilings.{most-gates, most-fanins}
 use Rattle.model.specs.Network.{Gate}
 use Rattle.frames.specs.declared.Place.{Place}
 use Rattle.frames.specs.declared.Place.the-variants.{Opening, AfterGates, Closed}
-use Rattle.frames.specs.Text.{Line, all-digits, even, bytes, word-at, long-at, words}
+use Rattle.frames.specs.Text.{Line, all-digits, digits-before, even, bytes, word-at, long-at, words}
 
 -- What stood before a line is a `Place`: nothing, the header and so many gates, or the end.
 
@@ -59,10 +59,24 @@ unfoldable pub none-there : List ℕ → Bool
 none-there [] = true
 none-there (x ∷ xs) = false
 
--- [N2] no digits, a byte that is none, an odd number of them, or no line feed behind them
-unfoldable pub malformed : Place → Line → Bool
-unfolding none-there all-digits even
-malformed p l = none-there (l .digits) || not (all-digits (l .digits)) || not (even (l .digits)) || not (l .ended)
+-- [N23] nothing before the line feed
+unfoldable pub empty : Place → Line → Bool
+unfolding none-there
+empty p l = none-there (l .digits)
+
+-- [N21] a byte that is no digit
+unfoldable pub bad-digit : Place → Line → Bool
+unfolding all-digits
+bad-digit p l = not (all-digits (l .digits))
+
+-- [N22] a digit without its second
+unfoldable pub odd : Place → Line → Bool
+unfolding even
+odd p l = not (even (l .digits))
+
+-- [N24] no line feed behind it
+unfoldable pub unended : Place → Line → Bool
+unended p l = not (l .ended)
 
 -- [N3] [F11] another type than the place allows
 unfoldable pub misplaced : Place → Line → Bool
@@ -117,12 +131,21 @@ pub record Row : Type 0 where
   pub number : ℕ
   pub given : Place → Line → Bool
 
--- [O3] The table: a row a number, in the order in which they are given.
-unfoldable pub table : List Row
-unfolding malformed misplaced wrong-length one-too-many unordered miscounted no-gates
-table =
-    record { number = 2; given = malformed }
-    ∷ record { number = 3; given = misplaced }
+-- [O3] The rows of a line's form, in the order in which they are given. They do not ask where the line stands.
+unfoldable pub form-rows : List Row
+unfolding empty bad-digit odd unended
+form-rows =
+    record { number = 23; given = empty }
+    ∷ record { number = 21; given = bad-digit }
+    ∷ record { number = 22; given = odd }
+    ∷ record { number = 24; given = unended }
+    ∷ []
+
+-- [O3] The rows of its frame, by rising number.
+unfoldable pub frame-rows : List Row
+unfolding misplaced wrong-length one-too-many unordered miscounted no-gates
+frame-rows =
+    record { number = 3; given = misplaced }
     ∷ record { number = 4; given = wrong-length }
     ∷ record { number = 5; given = one-too-many }
     ∷ record { number = 6; given = unordered }
@@ -130,8 +153,12 @@ table =
     ∷ record { number = 8; given = no-gates }
     ∷ []
 
--- [O3] The number of a line, if it is faulty where it stands: that of the first row that holds, which is the lowest, since the
--- table's rows rise.
+-- [O3] The table: the form before the frame.
+unfoldable pub table : List Row
+unfolding form-rows frame-rows
+table = form-rows ++ frame-rows
+
+-- [O3] The number of a line, if it is faulty where it stands: that of the first row that holds.
 unfoldable pub first-given : List Row → Place → Line → Option ℕ
 first-given [] p l = none
 first-given (r ∷ rs) p l = cond (r .given p l) (some (r .number)) (first-given rs p l)
@@ -139,6 +166,11 @@ first-given (r ∷ rs) p l = cond (r .given p l) (some (r .number)) (first-given
 unfoldable pub fault : Place → Line → Option ℕ
 unfolding first-given table
 fault p l = first-given table p l
+
+-- [N21] [O1] The column told with a number: for 21 the place of the first bad digit, counted from 1; 0 with all others.
+unfoldable pub column : ℕ → Line → ℕ
+unfolding digits-before
+column k l = cond (eqb k 21) (suc (digits-before (l .digits))) 0
 
 -- [F11] where the next line stands, after a line without fault
 unfoldable pub next-place : Place → Line → Place

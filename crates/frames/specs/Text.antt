@@ -1,5 +1,5 @@
 -- Text, lines, digits, numbers.
-use Prim.Native.Nat.{ℕ, _+_, _*_, _-_}
+use Prim.Native.Nat.{ℕ, suc, _+_, _*_, _-_}
 use mathlib.Core.Bool.{Bool, true, false, cond, _&&_}
 use mathlib.Core.List.{List, [], _∷_}
 use lib.ListN.{getD}
@@ -32,6 +32,12 @@ unfoldable pub all-digits : List ℕ → Bool
 unfolding digit
 all-digits [] = true
 all-digits (b ∷ bs) = ltb (digit b) 16 && all-digits bs
+
+-- how many digits stand before the first byte that is none, or in all
+unfoldable pub digits-before : List ℕ → ℕ
+unfolding digit
+digits-before [] = 0
+digits-before (b ∷ bs) = cond (ltb (digit b) 16) (suc (digits-before bs)) 0
 
 -- [F1] two digits a byte
 unfoldable pub even : List ℕ → Bool

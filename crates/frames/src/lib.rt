@@ -1,20 +1,20 @@
 // One line of a text, in both directions: hexadecimal read into a frame, or the number of its refusal with its line; and,
 // in `put`, bytes and words written as digits.
 //
-// `read_line` finds the line that begins at a place of the text and answers by the table of refusal numbers: 2 for the
+// `read_line` finds the line that begins at a place of the text and answers by the table of refusal numbers: 21 to 24 for the
 // line's form, then by what stood before it 3 for its type, 4 for its length, 5 and 6 for a gate, 7 and 8 for the end.
 // `fan_in` reads one fan-in of a gate line. Numbers are read with digits that are none counting 16, so that no number
 // has to be refused before its line is.
 ghost use mathlib.Core.Path.{_≡_};
-ghost use mathlib.Core.Bool.{false, not};
+ghost use mathlib.Core.Option.{none};
 ghost use Prim.Native.Nat.{_+_, _^_, _≤_, _<_};
 ghost use lib.ListN.{length, drop};
 ghost use lib.Seq.{slice};
-ghost use Rattle.frames.specs.Text.{digit, all-digits, bytes, words};
-ghost use Rattle.frames.specs.Table.{malformed, rising-from};
+ghost use Rattle.frames.specs.Text.{digit, digits-before, bytes, words};
+ghost use Rattle.frames.specs.Table.{rising-from};
 ghost use Rattle.frames.specs.Frames.{judged, line-read, digit-at, byte-from, word-from, fan-in-from};
-ghost use Rattle.frames.specs.steps.Cut.{long-from, line-length, line-from};
-ghost use Rattle.frames.specs.Refusal.{at-line, at-no-line, no-room};
+ghost use Rattle.frames.specs.steps.Cut.{long-from, line-length, line-from, form-found, form-fault};
+ghost use Rattle.frames.specs.Refusal.{at-column, at-line, at-no-line, no-room};
 ghost use Rattle.frames.specs.declared.Place.the-variants.{Opening, AfterGates};
 ghost use Rattle.frames.specs.declared.LineRead.the-variants.{Refused};
 use units::Cells;
@@ -35,10 +35,11 @@ pub enum Place {
     Closed,
 }
 
-// A refusal [O1]: which it is, and where.
+// A refusal [O1]: which it is, and where: at what line, and at what column of it.
 pub struct Refusal {
     pub number: u8,
     pub line: usize,
+    pub column: usize,
 }
 
 // What reading a line gives: a frame and where the next line begins, a refusal, or that the text ends here.
@@ -73,8 +74,17 @@ pub const MOST_TEXT: usize = 24_576;
 // The refusal numbers. A text above its ceiling:
 pub const TOO_LONG: u8 = 1;
 
-// What one line can give. An empty line, a bad digit, an odd digit count, or a last line that is not ended:
-pub const MALFORMED: u8 = 2;
+// What one line can give. A byte that is no digit:
+pub const BAD_DIGIT: u8 = 21;
+
+// An odd number of digits:
+pub const ODD_DIGITS: u8 = 22;
+
+// An empty line:
+pub const EMPTY_LINE: u8 = 23;
+
+// A last line that is not ended:
+pub const NOT_ENDED: u8 = 24;
 
 // An unknown or misplaced type:
 pub const MISPLACED: u8 = 3;
@@ -101,10 +111,21 @@ pub const TOO_HEAVY: u8 = 9;
 pub const TOO_SHORT: u8 = 10;
 
 impl Refusal {
+    pub fn at_column(number: u8, line: usize, column: usize) -> Refusal
+        ensures { λ r. ⌜ r ≡ at-column number line column ⌝ }
+    {
+        Refusal {
+            number,
+            line,
+            column,
+        }
+    }
+
+    // Column 0: no place of the line is pointed at.
     pub fn at_line(number: u8, line: usize) -> Refusal
         ensures { λ r. ⌜ r ≡ at-line number line ⌝ }
     {
-        Refusal { number, line }
+        Refusal::at_column(number, line, 0)
     }
 
     // Line 0: no line of the text is at fault.
@@ -211,38 +232,46 @@ fn line_end(text: &[u8], at: usize) -> usize
     i
 }
 
-// Whether every byte from `at` up to `end` is a digit.
-fn all_digits(text: &[u8], at: usize, end: usize) -> bool
-    requires { ⌜ end ≤ length (now text) ⌝ }
-    ensures { λ r. ⌜ r ≡ all-digits (slice at end (now (text .entry))) ⌝ }
+// The place of the first byte from `at` up to `end` that is no digit; `end` where all are.
+fn first_bad(text: &[u8], at: usize, end: usize) -> usize
+    requires { ⌜ (at ≤ end) × (end ≤ length (now text)) ⌝ }
+    ensures { λ r. ⌜ r ≡ at + digits-before (slice at end (now (text .entry))) ⌝ }
 {
     let mut i = at;
-    while i < end {
-        if digit(text[i]) == NO_DIGIT {
-            return false;
-        }
+    while i < end && digit(text[i]) != NO_DIGIT {
         i += 1;
     }
-    true
+    i
 }
 
-// Whether the line from `at` up to `end` is of the right form: not empty, ended, an even number of digits and nothing
-// else. Refusal 2 is given where it is not.
-fn well_formed(text: &[u8], at: usize, end: usize) -> bool
+// What is found of the form of a line: nothing, or its refusal.
+enum Form {
+    Right,
+    Wrong(Refusal),
+}
+
+// The form of the line from `at` up to `end`, which is right where it is not empty, has digits alone and an even number of
+// them, and is ended: 23 where it is empty, and otherwise the first of 21, 22 and 24 that it has.
+fn line_form(text: &[u8], at: usize, end: usize, line: usize) -> Form
     requires { ⌜ (at ≤ end) × (end ≤ length (now text)) ⌝ }
-    ensures { λ r. ⌜ r ≡ not (malformed Opening (line-from (now (text .entry)) at end)) ⌝ }
+    ensures { λ r. ⌜ r ≡ form-found line (line-from (now (text .entry)) at end) ⌝ }
 {
     if end == at {
-        return false;
+        return Form::Wrong(Refusal::at_line(EMPTY_LINE, line));
     }
-    if text.len() <= end {
-        return false;
+    let bad = first_bad(text, at, end);
+    if bad < end {
+        // Columns count from 1.
+        return Form::Wrong(Refusal::at_column(BAD_DIGIT, line, bad - at + 1));
     }
     let odd = (end - at) % 2;
     if odd != 0 {
-        return false;
+        return Form::Wrong(Refusal::at_line(ODD_DIGITS, line));
     }
-    all_digits(text, at, end)
+    if text.len() <= end {
+        return Form::Wrong(Refusal::at_line(NOT_ENDED, line));
+    }
+    Form::Right
 }
 
 // A line's number, told at the line.
@@ -263,7 +292,7 @@ const END_TYPE: u64 = 0x0F;
 
 // A well-formed line that opens the text: 3 by its type, 4 by its length, or a header.
 fn read_header(text: &[u8], at: usize, end: usize, line: usize) -> LineRead
-    requires { ⌜ malformed Opening (line-from (now text) at end) ≡ false ⌝ }
+    requires { ⌜ form-fault (line-from (now text) at end) ≡ none ⌝ }
     ensures { λ r. ⌜ r ≡ judged at Opening line (line-from (now (text .entry)) at end) ⌝ }
 {
     if byte_at(text, at) != HEADER_TYPE {
@@ -305,7 +334,7 @@ fn rising(text: &[u8], from: usize, end: usize, gate: GateNumber) -> bool
 // A well-formed line of type 02, after a header and so many gates: 4 by its count or length, 5 by its number, 6 by its
 // fan-ins, or a gate.
 fn read_gate(text: &[u8], at: usize, end: usize, gates: usize, line: usize) -> LineRead
-    requires { ⌜ (malformed Opening (line-from (now text) at end) ≡ false) × (byte-from (now text) at ≡ 0x02) ⌝ }
+    requires { ⌜ (form-fault (line-from (now text) at end) ≡ none) × (byte-from (now text) at ≡ 0x02) ⌝ }
     ensures { λ r. ⌜ r ≡ judged at (AfterGates gates) line (line-from (now (text .entry)) at end) ⌝ }
 {
     // The count of fan-ins stands behind type, weight and delay.
@@ -340,7 +369,7 @@ fn read_gate(text: &[u8], at: usize, end: usize, gates: usize, line: usize) -> L
 // A well-formed line of type 0F, after a header and so many gates: 4 by its length, 7 by its count, 8 where there was no
 // gate, or an end.
 fn read_end(text: &[u8], at: usize, end: usize, gates: usize, line: usize) -> LineRead
-    requires { ⌜ (malformed Opening (line-from (now text) at end) ≡ false) × (byte-from (now text) at ≡ 0x0F) ⌝ }
+    requires { ⌜ (form-fault (line-from (now text) at end) ≡ none) × (byte-from (now text) at ≡ 0x0F) ⌝ }
     ensures { λ r. ⌜ r ≡ judged at (AfterGates gates) line (line-from (now (text .entry)) at end) ⌝ }
 {
     if end - at != END_DIGITS {
@@ -358,7 +387,7 @@ fn read_end(text: &[u8], at: usize, end: usize, gates: usize, line: usize) -> Li
 
 // A well-formed line after a header and so many gates: a gate or the end.
 fn read_after_header(text: &[u8], at: usize, end: usize, gates: usize, line: usize) -> LineRead
-    requires { ⌜ malformed Opening (line-from (now text) at end) ≡ false ⌝ }
+    requires { ⌜ form-fault (line-from (now text) at end) ≡ none ⌝ }
     ensures { λ r. ⌜ r ≡ judged at (AfterGates gates) line (line-from (now (text .entry)) at end) ⌝ }
 {
     let kind = byte_at(text, at);
@@ -371,8 +400,20 @@ fn read_after_header(text: &[u8], at: usize, end: usize, gates: usize, line: usi
     refused(MISPLACED, line)
 }
 
-// The line that begins at `at`, by what stood before it: its frame and where the next line begins, or the lowest number
-// of the table that it gives, with its line. A place past the text's end counts as its end.
+// A well-formed line, by what stood before it.
+fn read_formed(text: &[u8], at: usize, end: usize, place: Place, line: usize) -> LineRead
+    requires { ⌜ form-fault (line-from (now text) at end) ≡ none ⌝ }
+    ensures { λ r. ⌜ r ≡ judged at place line (line-from (now (text .entry)) at end) ⌝ }
+{
+    match place {
+        Place::Opening => read_header(text, at, end, line),
+        Place::AfterGates(gates) => read_after_header(text, at, end, gates, line),
+        Place::Closed => refused(MISPLACED, line),
+    }
+}
+
+// The line that begins at `at`, by what stood before it: its frame and where the next line begins, or the first number of
+// the table that it gives, with its line and column. A place past the text's end counts as its end.
 pub fn read_line(text: &[u8], at: usize, place: Place, line: usize) -> LineRead
     ensures { λ r. ⌜ r ≡ line-read (now (text .entry)) at place line ⌝ }
 {
@@ -380,12 +421,8 @@ pub fn read_line(text: &[u8], at: usize, place: Place, line: usize) -> LineRead
         return LineRead::Nothing;
     }
     let end = line_end(text, at);
-    if !well_formed(text, at, end) {
-        return refused(MALFORMED, line);
-    }
-    match place {
-        Place::Opening => read_header(text, at, end, line),
-        Place::AfterGates(gates) => read_after_header(text, at, end, gates, line),
-        Place::Closed => refused(MISPLACED, line),
+    match line_form(text, at, end, line) {
+        Form::Right => read_formed(text, at, end, place, line),
+        Form::Wrong(refusal) => LineRead::Refused(refusal),
     }
 }

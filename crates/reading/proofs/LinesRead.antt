@@ -26,8 +26,8 @@ use Rattle.frames.specs.declared.Place.the-variants.{Opening, AfterGates, Close
 use Rattle.frames.specs.declared.LineRead.{LineRead}
 use Rattle.frames.specs.declared.LineRead.the-variants as read
 use Rattle.frames.specs.Text.{Line, lines}
-use Rattle.frames.specs.Table.{kind, fault, next-place, misplaced, header-capacity, header-hop, gate-of, gate-count}
-use Rattle.frames.specs.Refusal.{at-line}
+use Rattle.frames.specs.Table.{kind, fault, column, next-place, misplaced, header-capacity, header-hop, gate-of, gate-count}
+use Rattle.frames.specs.Refusal.{at-column, at-line}
 use Rattle.frames.specs.Frames.{frame, told, judged, line-read, fan-in-from}
 use Rattle.frames.specs.steps.Cut.{line-from, line-length}
 use Rattle.frames.proofs.LineRead.{the-type}
@@ -45,7 +45,9 @@ use Rattle.reading.specs.steps.Passes.{refusal-of, header-only}
 -- other lines stand.
 data View (text : List ℕ) (at : ℕ) (p : Place) (line : ℕ) (r : LineRead) : Type 0 where
   nothing : lines (drop at text) ≡ [] → r ≡ read.Nothing → View text at p line r
-  faulty : (l : Line) (ls : List Line) (k : ℕ) → lines (drop at text) ≡ l ∷ ls → fault p l ≡ some k → r ≡ read.Refused (at-line k line) → View text at p line r
+  faulty :
+      (l : Line) (ls : List Line) (k : ℕ) →
+      lines (drop at text) ≡ l ∷ ls → fault p l ≡ some k → r ≡ read.Refused (at-column k line (column k l)) → View text at p line r
   clean :
       (l : Line) (next : ℕ) →
       at < length text →
@@ -59,12 +61,12 @@ module _ (text : List ℕ) (at : ℕ) (inside : at < length text) (p : Place) (l
   abbrev first : Line
   first = line-from text at end
 
-  read-told : line-read text at p line ≡ told (fault p first) line (frame first (end + 1))
+  read-told : line-read text at p line ≡ told (fault p first) line first (frame first (end + 1))
   unfolding judged
   read-told =
       let next : at + length (first .digits) + 1 ≡ end + 1 =
       omega (arith, length-slice at end text (end-most text at end inside refl)) in
-      read-first text at end inside refl p line ∙ ap (λ k. told (fault p first) line (frame first k)) next
+      read-first text at end inside refl p line ∙ ap (λ k. told (fault p first) line first (frame first k)) next
 
   view-line : View text at p line (line-read text at p line)
   unfolding told

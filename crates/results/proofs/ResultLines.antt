@@ -7,7 +7,7 @@ use lib.ListN.{length, length-append}
 use Rattle.frames.specs.Digits.{word-bytes, spell-line}
 use Rattle.frames.proofs.Digits.{length-digits}
 use Rattle.frames.specs.declared.Refusal.{Refusal}
-use Rattle.frames.specs.Refusal.{at-line, no-room}
+use Rattle.frames.specs.Refusal.{at-column, no-room}
 use Rattle.frames.specs.declared.Written.{Written}
 use Rattle.frames.specs.declared.Written.the-variants.{Refused}
 use Rattle.frames.specs.Digits.{digits}
@@ -68,9 +68,12 @@ module _ {out : List ℕ} where
       then (kind ∷ xs ++ ys) zs (omega (arith, length-append xs ys)) (three-parts kind xs ys (omega arith) p₁ p₂ p₃) p₄
 
 -- Two bytes hold what a number leaves by 65,536.
-pub refusal-wraps : (f : Refusal) → refusal-bytes (at-line (f .number) (f .line % 65_536)) ≡ refusal-bytes f
+wraps : (n : ℕ) → (n % 65_536 / 256 % 256 ≡ n / 256 % 256) × (n % 65_536 % 256 ≡ n % 256)
+wraps n = (omega arith, omega arith)
+
+pub refusal-wraps : (f : Refusal) → refusal-bytes (at-column (f .number) (f .line % 65_536) (f .column % 65_536)) ≡ refusal-bytes f
 unfolding refusal-bytes word-bytes
 refusal-wraps f =
-    let high : f .line % 65_536 / 256 % 256 ≡ f .line / 256 % 256 = omega arith in
-    let low : f .line % 65_536 % 256 ≡ f .line % 256 = omega arith in
-    rw (high, low)
+    let line = wraps (f .line) in
+    let column = wraps (f .column) in
+    rw (line .0, line .1, column .0, column .1)

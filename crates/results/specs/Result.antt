@@ -29,10 +29,10 @@ unfoldable pub result-end-bytes : ℕ → List ℕ
 unfolding word-bytes
 result-end-bytes gates = 0x1F ∷ word-bytes gates
 
--- [F10] which refusal, and at what line
+-- [F10] which refusal, at what line, and at what column of it
 unfoldable pub refusal-bytes : Refusal → List ℕ
 unfolding word-bytes
-refusal-bytes f = 0x1E ∷ f .number ∷ word-bytes (f .line)
+refusal-bytes f = 0x1E ∷ f .number ∷ word-bytes (f .line) ++ word-bytes (f .column)
 
 -- [F12] The lines in their order, for any row of labels and any roots.
 unfoldable pub result-lines : Network → List ℕ → List ℕ → List (List ℕ)

@@ -82,17 +82,18 @@ fn end_line(gates: u16, out: &mut [u8]) -> Written
     feed(out, at)
 }
 
-// A refusal's line [F10]. No text has a line whose number two bytes do not hold; of such a number the two
+// A refusal's line [F10]. No text has a line or a column that two bytes do not hold; of a number that they do not hold the two
 // lowest bytes are written.
 pub fn refusal_line(refusal: Refusal, out: &mut [u8]) -> Written
     ensures { λ r. ⌜ LineWritten (spell-line (refusal-bytes refusal)) (now (out .entry)) r (now (out .exit)) ⌝ }
 {
-    if out.len() < 9 {
+    if out.len() < 13 {
         return Written::Refused(Refusal::no_room());
     }
     let at = put_byte(out, 0, 0x1E);
     let at = put_byte(out, at, refusal.number);
     let at = put_word(out, at, (refusal.line % 65_536) as u16);
+    let at = put_word(out, at, (refusal.column % 65_536) as u16);
     feed(out, at)
 }
 

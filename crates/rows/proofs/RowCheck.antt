@@ -2,7 +2,7 @@
 use Prim.Native.Nat.{ℕ, zero, suc, _+_, _*_, _≤_, _<_}
 use mathlib.Core.Path.{_≡_, refl, sym, _∙_, ap}
 use mathlib.Core.Logic.{⊎-elim}
-use mathlib.Core.Bool.{Bool, true, false, cond}
+use mathlib.Core.Bool.{Bool, true, false, cond, not}
 use mathlib.Core.List.{List, [], _∷_, _++_, map, append-assoc, append-nil}
 use mathlib.Core.Option.{Option, none, some}
 use native.Mathlib.Decide.{decLt}
@@ -19,7 +19,7 @@ use Rattle.frames.specs.Text.{Line, lines}
 use Rattle.frames.specs.declared.Place.the-variants.{Opening, AfterGates}
 use Rattle.frames.specs.declared.Refusal.{Refusal}
 use Rattle.frames.specs.Refusal.{at-line, at-no-line, no-room}
-use Rattle.frames.specs.Table.{kind, fault, gate-of}
+use Rattle.frames.specs.Table.{kind, fault, rising-from, gate-of}
 use Rattle.frames.specs.Digits.{byte-digits, spell-line}
 use Rattle.frames.proofs.Tests.{never, passed, picked}
 use Rattle.frames.proofs.Digits.{length-digits}
@@ -49,10 +49,29 @@ unfolding unless-fault fault-if
 unless-test true f r = refl
 unless-test false f r = refl
 
-unless-told : (o : Option ℕ) (line : ℕ) (r : Reading) → unless-fault (told o line) r ≡ unless o line r
+-- the numbers that the line of a gate can be given, none of which points at a column
+pub data GateNumber : Option ℕ → Type 0 where
+  right : GateNumber none
+  four : GateNumber (some 4)
+  five : GateNumber (some 5)
+  six : GateNumber (some 6)
+
+pub gate-given : (v count : ℕ) (fs : List ℕ) → GateNumber (gate-number v count fs)
+unfolding gate-number
+gate-given v count fs = by (ltb most-fanins count) (leb most-gates v) (not (rising-from 0 v fs))
+  where
+    by : (a b c : Bool) → GateNumber (cond a (some 4) (cond b (some 5) (cond c (some 6) none)))
+    by true b c = four
+    by false true c = five
+    by false false true = six
+    by false false false = right
+
+unless-told : {o : Option ℕ} → GateNumber o → (line : ℕ) (l : Line) (r : Reading) → unless-fault (told o line) r ≡ unless o line l r
 unfolding unless-fault told unless
-unless-told none line r = refl
-unless-told (some number) line r = refl
+unless-told right line l r = refl
+unless-told four line l r = refl
+unless-told five line l r = refl
+unless-told six line l r = refl
 
 in-order : (long none-there : Bool) (f h : Fault) (r : Reading)
     → unless-fault (first-of (fault-if long (at-no-line 1)) (first-of f (first-of (fault-if none-there (at-line 8 2)) h))) r
@@ -129,28 +148,28 @@ spell-length h row =
 -- reading the lines
 
 walk-header : (at : ℕ) (n : Network) (l : Line) (ls : List Line)
-    → walk Opening at n (l ∷ ls) ≡ unless (fault Opening l) at (walk (AfterGates 0) (suc at) (with-header n l) ls)
+    → walk Opening at n (l ∷ ls) ≡ unless (fault Opening l) at l (walk (AfterGates 0) (suc at) (with-header n l) ls)
 unfolding walk
 walk-header at n l ls = refl
 
 walk-gate : (v at : ℕ) (n : Network) (l : Line) (ls : List Line) → kind l ≡ 0x02
-    → walk (AfterGates v) at n (l ∷ ls) ≡ unless (fault (AfterGates v) l) at (walk (AfterGates (suc v)) (suc at) (with-gate n l) ls)
+    → walk (AfterGates v) at n (l ∷ ls) ≡ unless (fault (AfterGates v) l) at l (walk (AfterGates (suc v)) (suc at) (with-gate n l) ls)
 unfolding walk
 walk-gate v at n l ls k =
     let t : eqb (kind l) 0x02 ≡ true = eq-eqb (kind l) 0x02 k in
     rw (walk, t)
 
 walk-end : (v at : ℕ) (n : Network) (l : Line) → kind l ≡ 0x0F
-    → walk (AfterGates v) at n (l ∷ []) ≡ unless (fault (AfterGates v) l) at (network n)
+    → walk (AfterGates v) at n (l ∷ []) ≡ unless (fault (AfterGates v) l) at l (network n)
 unfolding walk
 walk-end v at n l k =
     let t : eqb (kind l) 0x02 ≡ false = ne-eqb (kind l) 0x02 (omega arith) in
     rw (walk, t)
 
-unless-same : (o : Option ℕ) (at : ℕ) (r s : Reading) → (o ≡ none → r ≡ s) → unless o at r ≡ unless o at s
+unless-same : (o : Option ℕ) (at : ℕ) (l : Line) (r s : Reading) → (o ≡ none → r ≡ s) → unless o at l r ≡ unless o at l s
 unfolding unless
-unless-same none at r s h = h refl
-unless-same (some k) at r s h = refl
+unless-same none at l r s h = h refl
+unless-same (some k) at l r s h = refl
 
 -- a network with more gates
 abbrev more-gates : Network → List Gate → Network
@@ -184,10 +203,10 @@ count-told v count fs =
 abbrev ended : ℕ → Network → Reading
 ended gates n = cond (eqb gates 0) (refused (at-line 8 2)) (network n)
 
-ended-here : (v at : ℕ) (n : Network) → at ≡ line-of-gate v → unless (cond (eqb v 0) (some 8) none) at (network n) ≡ ended v n
+ended-here : (v at : ℕ) (l : Line) (n : Network) → at ≡ line-of-gate v → unless (cond (eqb v 0) (some 8) none) at l (network n) ≡ ended v n
 unfolding unless
-ended-here zero at n e = rw e
-ended-here (suc v) at n e = rw (ne-eqb (suc v) 0 (omega arith))
+ended-here zero at l n e = rw e
+ended-here (suc v) at l n e = rw (ne-eqb (suc v) 0 (omega arith))
 
 module _ (row : List ℕ) (fit : InRange row) where
   row-line-gate : (v : ℕ) → gate-of (spelled (row-frame row v)) ≡ gate-in row v
@@ -211,7 +230,7 @@ module _ (row : List ℕ) (fit : InRange row) where
   unfolding count-up first-fault unless-fault
   walk-row v zero at n h r e =
       let c : v + 0 ≡ v = omega arith in
-      rw (c, walk-end v at n (spelled (end-bytes v)) (end-kind v), end-faults v (omega arith), no-more-gates n) (ended-here v at n e)
+      rw (c, walk-end v at n (spelled (end-bytes v)) (end-kind v), end-faults v (omega arith), no-more-gates n) (ended-here v at (spelled (end-bytes v)) n e)
   walk-row v (suc k) at n h r e =
       let c : v + suc k ≡ suc v + k = omega arith in
       let l = spelled (row-frame row v) in
@@ -222,14 +241,14 @@ module _ (row : List ℕ) (fit : InRange row) where
       let later = first-fault row (suc v) k in
       let then = ended (v + suc k) (more-gates n (g ∷ gs)) in
       walk-gate v at n l rest (gate-kind g (held 8 (count-in row v)) (omega arith))
-      ∙ ap (λ (o : Option ℕ). unless o at (walk (AfterGates (suc v)) (suc at) (with-gate n l) rest)) (row-line-fault v (omega arith))
-      ∙ ap (λ (a : ℕ). unless here a (walk (AfterGates (suc v)) (suc at) (with-gate n l) rest)) e
-      ∙ unless-same here (line-of-gate v) (walk (AfterGates (suc v)) (suc at) (with-gate n l) rest) (unless-fault later then)
+      ∙ ap (λ (o : Option ℕ). unless o at l (walk (AfterGates (suc v)) (suc at) (with-gate n l) rest)) (row-line-fault v (omega arith))
+      ∙ ap (λ (a : ℕ). unless here a l (walk (AfterGates (suc v)) (suc at) (with-gate n l) rest)) e
+      ∙ unless-same here (line-of-gate v) l (walk (AfterGates (suc v)) (suc at) (with-gate n l) rest) (unless-fault later then)
       (λ z.
       rw (c, with-that-gate n l g (row-line-gate v))
       (walk-row (suc v) k (suc at) (more-gates n (g ∷ [])) (in-number v (count-in row v) (fanins-in row v) z) (rw c at r) (omega arith)
       ∙ ap (λ (m : Network). unless-fault later (ended (suc v + k) m)) (still-more-gates n (g ∷ []) gs)))
-      ∙ sym (then-faults (told here (line-of-gate v)) later then ∙ unless-told here (line-of-gate v) (unless-fault later then))
+      ∙ sym (then-faults (told here (line-of-gate v)) later then ∙ unless-told (gate-given v (count-in row v) (fanins-in row v)) (line-of-gate v) l (unless-fault later then))
 
 -- 9
 

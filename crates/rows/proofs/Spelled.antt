@@ -15,10 +15,11 @@ use Rattle.model.specs.Network.{Gate}
 use Rattle.frames.specs.Text.{Line}
 use Rattle.frames.specs.declared.Place.{Place}
 use Rattle.frames.specs.declared.Place.the-variants.{Opening, AfterGates}
-use Rattle.frames.specs.Table.{kind, frame-length, header-capacity, header-hop, gate-count, gate-fanins, gate-of, end-count, malformed, misplaced, wrong-length, one-too-many, rising-from, unordered, miscounted, no-gates, fault}
+use Rattle.frames.specs.Table.{kind, frame-length, header-capacity, header-hop, gate-count, gate-fanins, gate-of, end-count, none-there, misplaced, wrong-length, one-too-many, rising-from, unordered, miscounted, no-gates, fault}
 use Rattle.frames.specs.Digits.{word-bytes, long-bytes, byte-digits}
 use Rattle.texts.specs.Spelling.{header-bytes, gate-bytes, end-bytes}
 use Rattle.frames.proofs.Digits.{Below, bytes-digits, digits-are-digits, digits-are-even, word-of, words-bytes, length-word-bytes, word-bytes-below, words-bytes-below, long-at-head}
+use Rattle.frames.proofs.Formed.{WellFormed}
 use Rattle.texts.proofs.Lines.{line-of}
 use Rattle.rows.specs.steps.RowCheck.{gate-number}
 
@@ -26,17 +27,27 @@ use Rattle.rows.specs.steps.RowCheck.{gate-number}
 abbrev pub spelled : List ℕ → Line
 spelled bs = line-of (gather byte-digits bs)
 
--- the number that a line is refused with, test by test
-pub fault-by-tests : (p : Place) (l : Line) {t2 t3 t4 t5 t6 t7 t8 : Bool} → malformed p l ≡ t2 → misplaced p l ≡ t3 → wrong-length p l ≡ t4
+-- the number that a well-formed line is refused with, test by test
+pub fault-by-tests : (p : Place) (l : Line) {t3 t4 t5 t6 t7 t8 : Bool} → WellFormed l → misplaced p l ≡ t3 → wrong-length p l ≡ t4
     → one-too-many p l ≡ t5 → unordered p l ≡ t6 → miscounted p l ≡ t7 → no-gates p l ≡ t8
-    → fault p l ≡ cond t2 (some 2) (cond t3 (some 3) (cond t4 (some 4) (cond t5 (some 5) (cond t6 (some 6) (cond t7 (some 7) (cond t8 (some 8) none))))))
+    → fault p l ≡ cond t3 (some 3) (cond t4 (some 4) (cond t5 (some 5) (cond t6 (some 6) (cond t7 (some 7) (cond t8 (some 8) none)))))
 unfolding fault
-fault-by-tests p l e2 e3 e4 e5 e6 e7 e8 =
-    λ i. cond (e2 i) (some 2) (cond (e3 i) (some 3) (cond (e4 i) (some 4) (cond (e5 i) (some 5) (cond (e6 i) (some 6) (cond (e7 i) (some 7) (cond (e8 i) (some 8) none))))))
+fault-by-tests p l w e3 e4 e5 e6 e7 e8 =
+    λ i.
+    cond (w .begun i) (some 23)
+    (cond (not (w .spelled i)) (some 21)
+    (cond (not (w .evenly i)) (some 22)
+    (cond (not (w .ended i)) (some 24)
+    (cond (e3 i) (some 3) (cond (e4 i) (some 4) (cond (e5 i) (some 5) (cond (e6 i) (some 6) (cond (e7 i) (some 7) (cond (e8 i) (some 8) none)))))))))
 
-spelled-formed : (p : Place) (b : ℕ) (bs : List ℕ) → Below 256 (b ∷ bs) → malformed p (spelled (b ∷ bs)) ≡ false
-unfolding malformed
-spelled-formed p b bs h = rw (digits-are-digits (b ∷ bs) h, digits-are-even (b ∷ bs)) (unfold gather byte-digits in refl)
+spelled-formed : (b : ℕ) (bs : List ℕ) → Below 256 (b ∷ bs) → WellFormed (spelled (b ∷ bs))
+spelled-formed b bs h =
+    record {
+      begun = unfold none-there gather byte-digits in refl;
+      spelled = digits-are-digits (b ∷ bs) h;
+      evenly = digits-are-even (b ∷ bs);
+      ended = refl;
+    }
 
 cons-below : (k b : ℕ) (bs : List ℕ) → b < k → Below k bs → Below k (b ∷ bs)
 cons-below k b bs h t zero = h
@@ -68,9 +79,9 @@ module _ (capacity hop : ℕ) where
       (word-bytes-below (capacity / 65_536) m
       (word-bytes-below (capacity % 65_536) d (word-bytes-below hop [] nil-below)))
 
-  header-formed : malformed Opening (spelled (header-bytes capacity hop)) ≡ false
+  header-formed : WellFormed (spelled (header-bytes capacity hop))
   unfolding header-bytes
-  header-formed = spelled-formed Opening 0x01 (long-bytes capacity ++ word-bytes hop) header-below
+  header-formed = spelled-formed 0x01 (long-bytes capacity ++ word-bytes hop) header-below
 
   pub header-length : length (header-bytes capacity hop) ≡ 7
   unfolding header-bytes
@@ -127,10 +138,10 @@ module _ (g : Gate) (count : ℕ) (c : count < 256) where
       (word-bytes-below (g .weight) d
       (word-bytes-below (g .delay) (count ∷ f) (cons-below 256 count f c (words-bytes-below (g .fanins)))))
 
-  gate-formed : (v : ℕ) → malformed (AfterGates v) (spelled (gate-bytes g count)) ≡ false
+  gate-formed : WellFormed (spelled (gate-bytes g count))
   unfolding gate-bytes
-  gate-formed v =
-      spelled-formed (AfterGates v) 0x02 (word-bytes (g .weight) ++ word-bytes (g .delay) ++ (count ∷ []) ++ gather word-bytes (g .fanins)) gate-below
+  gate-formed =
+      spelled-formed 0x02 (word-bytes (g .weight) ++ word-bytes (g .delay) ++ (count ∷ []) ++ gather word-bytes (g .fanins)) gate-below
 
   pub gate-length : length (gate-bytes g count) ≡ 6 + 2 * length (g .fanins)
   unfolding gate-bytes
@@ -171,7 +182,7 @@ module _ (g : Gate) (count : ℕ) (c : count < 256) where
       let e6 : unordered (AfterGates v) l ≡ not (rising-from 0 v (g .fanins)) = unfold unordered in rw (k, f) in
       let e7 : miscounted (AfterGates v) l ≡ false = unfold miscounted in rw k in
       let e8 : no-gates (AfterGates v) l ≡ false = unfold no-gates in rw k in
-      fault-by-tests (AfterGates v) l (gate-formed v) e3 e4 e5 e6 e7 e8
+      fault-by-tests (AfterGates v) l gate-formed e3 e4 e5 e6 e7 e8
 
 -- the end
 
@@ -180,9 +191,9 @@ module _ (gates : ℕ) where
   unfolding end-bytes
   end-below = cons-below 256 0x0F (word-bytes gates ++ []) (omega arith) (word-bytes-below gates [] nil-below)
 
-  end-formed : (v : ℕ) → malformed (AfterGates v) (spelled (end-bytes gates)) ≡ false
+  end-formed : WellFormed (spelled (end-bytes gates))
   unfolding end-bytes
-  end-formed v = spelled-formed (AfterGates v) 0x0F (word-bytes gates) end-below
+  end-formed = spelled-formed 0x0F (word-bytes gates) end-below
 
   pub end-length : length (end-bytes gates) ≡ 3
   unfolding end-bytes
@@ -211,4 +222,4 @@ module _ (gates : ℕ) where
       let e6 : unordered (AfterGates gates) l ≡ false = unfold unordered in rw k in
       let e7 : miscounted (AfterGates gates) l ≡ false = unfold miscounted in rw (k, n, eq-eqb gates gates refl) in
       let e8 : no-gates (AfterGates gates) l ≡ eqb gates 0 = unfold no-gates in rw k in
-      fault-by-tests (AfterGates gates) l (end-formed gates) e3 e4 e5 e6 e7 e8
+      fault-by-tests (AfterGates gates) l end-formed e3 e4 e5 e6 e7 e8

@@ -32,16 +32,16 @@ AllFit v (g ∷ gs) = Fit v g × AllFit (suc v) gs
 abbrev pub gate-text : Gate → List ℕ
 gate-text g = spell-line (gate-bytes g (length (g .fanins)))
 
-pub unless-network : (o : Option ℕ) (at : ℕ) (r : Reading) (m : Network) → unless o at r ≡ network m → (o ≡ none) × (r ≡ network m)
+pub unless-network : (o : Option ℕ) (at : ℕ) (l : Line) (r : Reading) (m : Network) → unless o at l r ≡ network m → (o ≡ none) × (r ≡ network m)
 unfolding unless
-unless-network none at r m e = (refl, e)
-unless-network (some k) at r m e = never cc
+unless-network none at l r m e = (refl, e)
+unless-network (some k) at l r m e = never cc
 
 -- nothing stands behind the end
 pub walk-closed : (at : ℕ) (n m : Network) (ls : List Line) → walk Closed at n ls ≡ network m → (ls ≡ []) × (n ≡ m)
 unfolding walk
 walk-closed at n m [] e = (refl, cc)
-walk-closed at n m (l ∷ ls) e = absurd (closed-line l (unless-network (fault Closed l) at _ m e .0))
+walk-closed at n m (l ∷ ls) e = absurd (closed-line l (unless-network (fault Closed l) at l _ m e .0))
 
 -- what the walk over gate lines and the end collects
 pub record Gates (v : ℕ) (n m : Network) (ls : List Line) : Type 0 where
@@ -92,7 +92,7 @@ pub walk-gates : (ls : List Line) (v at : ℕ) (n m : Network) → walk (AfterGa
 unfolding walk
 walk-gates [] v at n m e = never cc
 walk-gates (l ∷ ls) v at n m e =
-    let u = unless-network (fault (AfterGates v) l) at _ m e in
+    let u = unless-network (fault (AfterGates v) l) at l _ m e in
     ⊎-elim
     (λ (t : eqb (kind l) 0x02 ≡ true).
     one-more v n m l ls (gate-line v l (u .0) t) (walk-gates ls (suc v) (suc at) (with-gate n l) m (rw t at (u .1))))
@@ -153,7 +153,7 @@ pub walked : (ls : List Line) (m : Network) → walk Opening 1 nothing-read ls �
 unfolding walk
 walked [] m e = never cc
 walked (l ∷ ls) m e =
-    let u = unless-network (fault Opening l) 1 _ m e in
+    let u = unless-network (fault Opening l) 1 l _ m e in
     opened l ls m (header-line l (u .0)) (walk-gates ls 0 2 (with-header nothing-read l) m (u .1))
 
 pub told-light : (o : Option ℕ) (m n : Network) → told-heavy o m ≡ network n → (o ≡ none) × (m ≡ n)

@@ -6,7 +6,7 @@ use mathlib.Core.List.{List, [], _∷_, _++_, map}
 use lib.ListN.{replicate}
 use Rattle.model.specs.Network.{Gate, Network}
 use Rattle.frames.specs.Typed.{typed}
-use Rattle.frames.specs.Refusal.{at-line}
+use Rattle.frames.specs.Refusal.{at-column, at-line}
 use Rattle.texts.specs.Reading.{Reading, refused, network, reading}
 
 -- texts one after the other
@@ -85,13 +85,18 @@ cases =
     network (under 3 (replicate 8 (one []) ++ (one (0 ∷ 1 ∷ 2 ∷ 3 ∷ 4 ∷ 5 ∷ 6 ∷ 7 ∷ []) ∷ [])))
     -- 1: 24,577 bytes, and not 24,576
     ∷ times 24_577 (typed "\n") answers refused (at-line 1 0)
-    ∷ times 24_576 (typed "\n") answers refused (at-line 2 1)
-    -- 2: line feeds only, a lower-case digit, 0D before 0A, an odd number of digits, a last line not ended
-    ∷ typed "\n\n\n" answers refused (at-line 2 1)
-    ∷ typed "0100000003000a\n" answers refused (at-line 2 1)
-    ∷ typed "01000000030004\r\n" answers refused (at-line 2 1)
-    ∷ typed "0100000003000\n" answers refused (at-line 2 1)
-    ∷ header & gate & typed "0F0001" answers refused (at-line 2 3)
+    ∷ times 24_576 (typed "\n") answers refused (at-line 23 1)
+    -- 23: line feeds only, an empty line between others
+    ∷ typed "\n\n\n" answers refused (at-line 23 1)
+    ∷ header & gate & typed "\n0F0001\n" answers refused (at-line 23 3)
+    -- 21: a lower-case digit in the last byte, 0D before 0A, the first of two
+    ∷ typed "0100000003000a\n" answers refused (at-column 21 1 14)
+    ∷ typed "01000000030004\r\n" answers refused (at-column 21 1 15)
+    ∷ header & typed "02000100020x0y\n" answers refused (at-column 21 2 12)
+    -- 22: an odd number of digits
+    ∷ typed "0100000003000\n" answers refused (at-line 22 1)
+    -- 24: a last line not ended
+    ∷ header & gate & typed "0F0001" answers refused (at-line 24 3)
     -- 3: an unknown type, a gate or an end first, a header twice, no end
     ∷ typed "7E\n" answers refused (at-line 3 1)
     ∷ gate answers refused (at-line 3 1)
@@ -99,11 +104,11 @@ cases =
     ∷ header & header answers refused (at-line 3 2)
     ∷ header answers refused (at-line 3 2)
     ∷ header & gate answers refused (at-line 3 3)
-    -- after 0F any line: 3, or 2 where it is malformed
+    -- after 0F any line: 3, or 21 to 24 by its form
     ∷ header & gate & typed "0F0001\n" & gate answers refused (at-line 3 4)
     ∷ header & gate & typed "0F0001\n0F0001\n" answers refused (at-line 3 4)
-    ∷ header & gate & typed "0F0001\n\n" answers refused (at-line 2 4)
-    ∷ header & gate & typed "0F0001\n0F0001" answers refused (at-line 2 4)
+    ∷ header & gate & typed "0F0001\n\n" answers refused (at-line 23 4)
+    ∷ header & gate & typed "0F0001\n0F0001" answers refused (at-line 24 4)
     -- 4: a header too short and too long, an end too short, counts 9 and 255
     ∷ typed "010000000300\n" answers refused (at-line 4 1)
     ∷ typed "0100000003000400\n" answers refused (at-line 4 1)
@@ -120,12 +125,18 @@ cases =
     ∷ header & gate & typed "0F0000\n" answers refused (at-line 7 3)
     -- 9: the lowest-numbered of two
     ∷ typed "01000000000000\n020000000000\n" & gate & gate & typed "0F0003\n" answers refused (at-line 9 3)
-    -- the lowest number of a line: 2 before 3, 3 before 4, 4 before 6, 4 before 8
-    ∷ typed "0f0000\n" answers refused (at-line 2 1)
+    -- the form of a line: 21 before 22 and 24, 22 before 24, each before 3
+    ∷ typed "x" answers refused (at-column 21 1 1)
+    ∷ typed "0" answers refused (at-line 22 1)
+    ∷ typed "0f0000\n" answers refused (at-column 21 1 2)
+    ∷ header & typed "FFFg\n" answers refused (at-column 21 2 4)
+    ∷ header & typed "FFF\n" answers refused (at-line 22 2)
+    ∷ header & typed "FF" answers refused (at-line 24 2)
+    -- its frame: 3 before 4, 4 before 6, 4 before 8
     ∷ typed "0F\n" answers refused (at-line 3 1)
     ∷ header & typed "0200000000020000\n" answers refused (at-line 4 2)
     ∷ header & typed "0F00\n" answers refused (at-line 4 2)
-    -- the first faulty line: 6 in it before 2 in the next; 3 after all lines before 9
+    -- the first faulty line: 6 in it before 23 in the next; 3 after all lines before 9
     ∷ header & typed "0200000000010000\n\n" answers refused (at-line 6 2)
     ∷ typed "01000000000000\n" & gate answers refused (at-line 3 3)
     ∷ []

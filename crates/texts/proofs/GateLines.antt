@@ -2,7 +2,7 @@
 use Prim.Native.Nat.{ℕ, suc, _+_, _<_}
 use mathlib.Core.Path.{_≡_, refl, sym, _∙_, ap}
 use mathlib.Core.Bool.{Bool, true, false, cond}
-use mathlib.Core.List.{List, [], _∷_, _++_, List·Memᴰ·head, List·Memᴰ·tail}
+use mathlib.Core.List.{List, [], _∷_, _++_}
 use native.Mathlib.Decide.{decLt}
 use native.Mathlib.Omega.{arith}
 use lib.Dec.{eqb}
@@ -12,10 +12,12 @@ use Rattle.model.specs.Network.{Gate, Network, size, gate}
 use Rattle.frames.specs.declared.Place.{Place}
 use Rattle.frames.specs.declared.Place.the-variants.{Opening, AfterGates, Closed}
 use Rattle.frames.specs.Text.{Line}
-use Rattle.frames.specs.Table.{table, misplaced, kind, next-place, gate-of}
+use Rattle.frames.specs.Table.{kind, next-place, gate-of}
 use Rattle.frames.specs.Fault.{Faultless}
+use Rattle.frames.proofs.Fault.{fault-none}
 use Rattle.texts.specs.Reading.{nothing-read, take-in, with-header, with-gate}
 use Rattle.texts.specs.Says.{Before, first, after}
+use Rattle.texts.proofs.Faultless.{closed-line}
 
 -- no line at all
 abbrev pub blank : Line
@@ -29,14 +31,6 @@ Stood : Place → List Line → Network → Type 0
 Stood Opening front n = (length front ≡ 0) × (size n ≡ 0)
 Stood (AfterGates g) front n = (length front ≡ suc g) × (size n ≡ g) × InLine front n
 Stood Closed front n = (length front ≡ size n + 2) × InLine front n
-
--- nothing stands after 0F
-after-end : (l : Line) → Faultless Closed l → ⊥
-unfolding table misplaced
-after-end l c =
-    let h : true ≡ false = c .clear (record { number = 3; given = misplaced }) (List·Memᴰ·tail (List·Memᴰ·head refl)) in
-    let z : _≡_ {A = ℕ} 0 1 = cc in
-    omega arith
 
 last : {A : Type 0} (xs : List A) (y d : A) (v : ℕ) → v ≡ length xs → getD (xs ++ (y ∷ [])) v d ≡ y
 last xs y d v e = rw e (getD-append-seam xs y [] d)
@@ -82,7 +76,7 @@ module _ (front : List Line) (n : Network) (l : Line) where
       )
       go false =
           (simp length-append (omega (arith, s .0, s .1)), still front l n (omega (arith, s .0, s .1)) (s .2))
-  next Closed clear s = absurd (after-end l clear)
+  next Closed clear s = absurd (closed-line l (fault-none Closed l .1 clear))
 
 stood : {front : List Line} {p : Place} {n : Network} → Before front p n → Stood p front n
 unfolding Stood nothing-read size

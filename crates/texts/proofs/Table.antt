@@ -16,10 +16,11 @@ use Rattle.model.specs.Network.{Network}
 use Rattle.frames.specs.declared.Place.{Place}
 use Rattle.frames.specs.declared.Place.the-variants.{Opening, AfterGates, Closed}
 use Rattle.frames.specs.Text.{Line, lines}
-use Rattle.frames.specs.Table.{fault, next-place}
+use Rattle.frames.specs.Table.{fault, column, next-place}
 use Rattle.frames.proofs.Fault.{fault-given, fault-none}
+use Rattle.frames.proofs.FormExactly.{column-exactly}
 use Rattle.frames.specs.declared.Refusal.{Refusal}
-use Rattle.frames.specs.Refusal.{at-line, at-no-line}
+use Rattle.frames.specs.Refusal.{at-column, at-line, at-no-line}
 use Rattle.texts.specs.Reading.{refused, network, most-text, nothing-read, take-in, at-the-end, unless, walk, first-heavy, told-heavy, weigh, reading}
 use Rattle.texts.specs.Says.{Before, first, after, Says, too-long, faulty-line, no-end, too-heavy, Reads}
 use Rattle.texts.specs.Exactly.{ReadingExactly}
@@ -35,7 +36,8 @@ unfolding walk unless
 walk-clean p at n l ls h = rw h
 
 pub walk-faulty :
-    (p : Place) (at : ℕ) (n : Network) (l : Line) (ls : List Line) (k : ℕ) → fault p l ≡ some k → walk p at n (l ∷ ls) ≡ refused (at-line k at)
+    (p : Place) (at : ℕ) (n : Network) (l : Line) (ls : List Line) (k : ℕ) →
+    fault p l ≡ some k → walk p at n (l ∷ ls) ≡ refused (at-column k at (column k l))
 unfolding walk unless
 walk-faulty p at n l ls k h = rw h
 
@@ -80,12 +82,13 @@ read-fitting text h = rw (le-ltb most-text (length text) h)
 refused-says : (text : List ℕ) (f : Refusal) → Says text f → reading text ≡ refused f
 unfolding weigh at-the-end told-heavy
 refused-says text _ (too-long h) = read-too-long text h
-refused-says text _ (faulty-line {front = front} {l = l} {p = p} {n = n} {k = k} back fits b here given) =
+refused-says text _ (faulty-line {front = front} {l = l} {p = p} {n = n} {k = k} {c = c} back fits b here given pointed) =
     read-fitting text fits
     ∙ ap weigh
     (ap (walk Opening 1 nothing-read) here
     ∙ walk-past b (l ∷ back)
-    ∙ walk-faulty p (suc (length front)) n l back k (fault-given k p l .1 given))
+    ∙ walk-faulty p (suc (length front)) n l back k (fault-given k p l .1 given)
+    ∙ ap (λ (place : ℕ). refused (at-column k (suc (length front)) place)) (column-exactly k p l given c .1 pointed))
 refused-says text _ (no-end {p = p} {n = n} fits b h) =
     read-fitting text fits ∙ ap weigh (walk-whole b ∙ open-end p (suc (length (lines text))) n h)
 refused-says text _ (too-heavy {n = n} {v = v} fits b h) =
@@ -122,7 +125,9 @@ module _ (text : List ℕ) (fits : length text ≤ most-text) where
           lines text ≡ (front ++ (l ∷ [])) ++ rest → Some (Says text) (Reads text)) →
           Some (Says text) (Reads text)
       go none e later = later (after b (fault-none p l .0 e)) (here ∙ sym (append-assoc front (l ∷ []) rest))
-      go (some k) e later = said (faulty-line rest fits b here (fault-given k p l .0 e))
+      go (some k) e later =
+          let given = fault-given k p l .0 e in
+          said (faulty-line rest fits b here given (column-exactly k p l given (column k l) .0 refl))
 
 says-or-reads : (text : List ℕ) → Some (Says text) (Reads text)
 says-or-reads text =

@@ -10,8 +10,8 @@ use Rattle.frames.specs.Text.{Line, lines}
 use Rattle.frames.specs.declared.Place.{Place}
 use Rattle.frames.specs.declared.Place.the-variants.{Opening, AfterGates, Closed}
 use Rattle.frames.specs.declared.Refusal.{Refusal}
-use Rattle.frames.specs.Refusal.{at-line, at-no-line}
-use Rattle.frames.specs.Table.{kind, fault, next-place, header-capacity, header-hop, gate-of}
+use Rattle.frames.specs.Refusal.{at-column, at-line, at-no-line}
+use Rattle.frames.specs.Table.{kind, fault, column, next-place, header-capacity, header-hop, gate-of}
 
 -- [B5] the bytes that a text may have
 abbrev pub most-text : ℕ
@@ -47,16 +47,17 @@ at-the-end Opening at n = refused (at-line 3 at)
 at-the-end (AfterGates g) at n = refused (at-line 3 at)
 at-the-end Closed at n = network n
 
--- a fault is told at its line; without one reading goes on
-unfoldable pub unless : Option ℕ → ℕ → Reading → Reading
-unless none at r = r
-unless (some k) at r = refused (at-line k at)
+-- a fault is told at its line, with its column; without one reading goes on
+unfoldable pub unless : Option ℕ → ℕ → Line → Reading → Reading
+unfolding column
+unless none at l r = r
+unless (some k) at l r = refused (at-column k at (column k l))
 
 -- [O3] the first faulty line decides
 unfoldable pub walk : Place → ℕ → Network → List Line → Reading
 unfolding at-the-end unless fault next-place take-in
 walk p at n [] = at-the-end p at n
-walk p at n (l ∷ ls) = unless (fault p l) at (walk (next-place p l) (suc at) (take-in n p l) ls)
+walk p at n (l ∷ ls) = unless (fault p l) at l (walk (next-place p l) (suc at) (take-in n p l) ls)
 
 -- [N9] the line of the first gate heavier than M; gate 0 stands in line 2
 unfoldable pub first-heavy : ℕ → ℕ → List Gate → Option ℕ

@@ -1,4 +1,4 @@
--- The refusals of a whole text as a relation: the number that the table says, and its line.
+-- The refusals of a whole text as a relation: the number that the table says, its line and its column.
 use Prim.Native.Nat.{ℕ, suc, _+_, _≤_, _<_}
 use mathlib.Core.Path.{_≡_}
 use mathlib.Core.List.{List, [], _∷_, _++_}
@@ -8,9 +8,9 @@ use Rattle.frames.specs.declared.Place.{Place}
 use Rattle.frames.specs.declared.Place.the-variants.{Opening, Closed}
 use Rattle.frames.specs.Text.{Line, lines}
 use Rattle.frames.specs.declared.Refusal.{Refusal}
-use Rattle.frames.specs.Refusal.{at-line, at-no-line}
+use Rattle.frames.specs.Refusal.{at-column, at-line, at-no-line}
 use Rattle.frames.specs.Table.{next-place}
-use Rattle.frames.specs.Fault.{Given, Faultless}
+use Rattle.frames.specs.Fault.{Given, Faultless, Column}
 use Rattle.texts.specs.Reading.{most-text, nothing-read, take-in}
 
 -- What stands before a line: the lines in front of it, each without fault where it stood, the place that they lead to, and
@@ -30,10 +30,11 @@ pub record LowestHeavy (n : Network) (v : ℕ) : Type 0 where
 pub data Says (text : List ℕ) : Refusal → Type 0 where
   -- [N1] [O2] The others are said of a text that is not too long.
   too-long : most-text < length text → Says text (at-no-line 1)
-  -- [O3] No line in front of it is faulty. [O1] Lines count from 1.
+  -- [O3] No line in front of it is faulty. [O1] Lines count from 1, and so do columns.
   faulty-line :
-      {front : List Line} {l : Line} {p : Place} {n : Network} {k : ℕ} (back : List Line) →
-      length text ≤ most-text → Before front p n → lines text ≡ front ++ (l ∷ back) → Given k p l → Says text (at-line k (suc (length front)))
+      {front : List Line} {l : Line} {p : Place} {n : Network} {k c : ℕ} (back : List Line) →
+      length text ≤ most-text → Before front p n → lines text ≡ front ++ (l ∷ back) → Given k p l → Column l k c
+      → Says text (at-column k (suc (length front)) c)
   -- [N3] [O4] No line is faulty, and the end is missing.
   no-end :
       {p : Place} {n : Network} →

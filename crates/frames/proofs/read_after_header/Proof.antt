@@ -2,7 +2,6 @@
 use borrow.Author.Needs.{needs}
 use mathlib.Core.Path.{_∙_}
 use native.Mathlib.Omega.{arith}
-use Rattle.frames.specs.declared.Place.the-variants.{Opening}
 use Rattle.frames.proofs.Formed.{formed}
 use Rattle.frames.proofs.AfterHeader.{gates-3}
 use Rattle.frames.proofs.read_after_header.Statement.{statement}
@@ -11,7 +10,7 @@ use Rattle.frames.proofs.read_after_header.Tie as tie
 byte-at-requires : tie.Need-byte-at-requires
 byte-at-requires c κs =
     let s = c .before in
-    omega (arith, formed Opening (s .args .text .now) (s .args .at) (s .args .end) (s .pre))
+    omega (arith, formed (s .args .text .now) (s .args .at) (s .args .end) (s .pre))
 
 read-gate-requires : tie.Need-read-gate-requires
 read-gate-requires c κs = search needs

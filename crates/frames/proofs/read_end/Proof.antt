@@ -2,14 +2,13 @@
 use borrow.Author.Needs.{needs}
 use mathlib.Core.Path.{_∙_}
 use native.Mathlib.Omega.{arith}
-use Rattle.frames.specs.declared.Place.the-variants.{Opening}
 use Rattle.frames.proofs.Formed.{Formed, formed}
 use Rattle.frames.proofs.End.{end-4, end-7, end-8, end-read}
 use Rattle.frames.proofs.read_end.Statement.{statement}
 use Rattle.frames.proofs.read_end.Tie as tie
 
 form : (s : tie.Start) → Formed (s .args .text .now) (s .args .at) (s .args .end)
-form s = formed Opening (s .args .text .now) (s .args .at) (s .args .end) (s .pre .0)
+form s = formed (s .args .text .now) (s .args .at) (s .args .end) (s .pre .0)
 
 sub-if1 : tie.Need-sub-if1
 sub-if1 c = omega (arith, form (c .before))

@@ -12,7 +12,6 @@ use lib.Seq.{slice}
 use Rattle.frames.specs.Text.{bytes, words}
 use Rattle.frames.specs.Table.{rising-from}
 use Rattle.frames.specs.Frames.{byte-from, word-from}
-use Rattle.frames.specs.declared.Place.the-variants.{Opening}
 use Rattle.frames.proofs.Formed.{Formed, formed}
 use Rattle.frames.proofs.Numbers.{byte-most}
 use Rattle.frames.proofs.OfLine.{weight-most, delay-most}
@@ -21,7 +20,7 @@ use Rattle.frames.proofs.read_gate.Statement.{statement}
 use Rattle.frames.proofs.read_gate.Tie as tie
 
 form : (s : tie.Start) → Formed (s .args .text .now) (s .args .at) (s .args .end)
-form s = formed Opening (s .args .text .now) (s .args .at) (s .args .end) (s .pre .0)
+form s = formed (s .args .text .now) (s .args .at) (s .args .end) (s .pre .0)
 
 -- The way back from each maker's answer to the one before it, and to the start.
 abbrev start : tie.After-count → tie.Start

@@ -5,7 +5,6 @@ use Prim.Native.Nat.{_+_}
 use mathlib.Core.Path.{_≡_, sym, _∙_}
 use native.Mathlib.Omega.{arith}
 use Rattle.units.proofs.Makers.{delayed-made, delayed-above}
-use Rattle.frames.specs.declared.Place.the-variants.{Opening}
 use Rattle.frames.specs.Frames.{word-from}
 use Rattle.frames.proofs.Formed.{formed}
 use Rattle.frames.proofs.OfLine.{hop-most}
@@ -34,7 +33,7 @@ hop-above c =
 byte-at-requires : tie.Need-byte-at-requires
 byte-at-requires c κs =
     let s = c .before in
-    omega (arith, formed Opening (s .args .text .now) (s .args .at) (s .args .end) (s .pre))
+    omega (arith, formed (s .args .text .now) (s .args .at) (s .args .end) (s .pre))
 
 refused-requires : tie.Need-refused-requires
 refused-requires c κs = search needs
@@ -48,7 +47,7 @@ returns c =
 sub-if2 : tie.Need-sub-if2
 sub-if2 c =
     let s = c .before .before .before in
-    omega (arith, formed Opening (s .args .text .now) (s .args .at) (s .args .end) (s .pre))
+    omega (arith, formed (s .args .text .now) (s .args .at) (s .args .end) (s .pre))
 
 refused-requires-2 : tie.Need-refused-requires-2
 refused-requires-2 c κs = search needs
@@ -89,7 +88,7 @@ long-at-requires c κs = search needs
 add-t11 : tie.Need-add-t11
 add-t11 c =
     let s = start (c .before .before .before .before) in
-    omega (arith, formed Opening (s .args .text .now) (s .args .at) (s .args .end) (s .pre))
+    omega (arith, formed (s .args .text .now) (s .args .at) (s .args .end) (s .pre))
 
 returns-4 : tie.Need-returns-4
 returns-4 c =

@@ -1,5 +1,5 @@
 -- What a row answers, found without spelling it: the faults that a spelled text can have, in the order of the refusals. What a row
--- spells is well-formed hexadecimal in the right places, so that 2, 3 and 7 cannot come back.
+-- spells is well-formed hexadecimal in the right places, so that 3, 7 and 21 to 24 cannot come back.
 use Prim.Native.Nat.{ℕ, zero, suc, _+_, _*_}
 use mathlib.Core.Bool.{Bool, cond, not}
 use mathlib.Core.List.{List}
