@@ -3,8 +3,8 @@ use Rattle.std.specs.Prelude.{ℕ, ◌+◌, ◌≤◌, ◌≡◌, ◌⊎◌, Lis
 use Rattle.texts.specs.Spelling.{join}
 use Rattle.rows.specs.declared.Read.{Read}
 use Rattle.results.specs.Block.{fitting}
-use Rattle.drawing.specs.Answer.{answer-lines}
-use Rattle.drawing.specs.Demands.{most-line}
+use Rattle.drawing.specs.Answer.{answer_lines}
+use Rattle.drawing.specs.Demands.{most_line}
 use Rattle.drawing.specs.Prepared.{Lent, PreparedInto}
 use Rattle.drawing.specs.Headline.{Ample}
 use Rattle.cluster.specs.declared.Printed.{Printed}
@@ -19,7 +19,7 @@ pub record Prepared (p : Read) (l : Lent) : Type 0 where
 
 -- [R7] A block of what a text answers: from the line of an index on, as many whole lines as have room.
 abbrev pub block : ℕ → List ℕ → ℕ → List (List ℕ)
-block room text index = fitting room (drop index (answer-lines text))
+block room text index = fitting room (drop index (answer_lines text))
 
 -- Where the blocks begin: the first at the first line, every other behind the one before it.
 pub data Begins (room : ℕ) (text : List ℕ) : ℕ → Type 0 where
@@ -28,7 +28,7 @@ pub data Begins (room : ℕ) (text : List ℕ) : ℕ → Type 0 where
 
 -- The line of an index is the first that is not printed yet, and [B7] a block has room for the longest line.
 pub record Unprinted (room : ℕ) (p : Read) (l : Lent) (index : ℕ) : Type 0 where
-  pub roomy : most-line ≤ room
+  pub roomy : most_line ≤ room
   pub prepared : Prepared p l
   pub begins : Begins room prepared.text index
 
@@ -50,4 +50,4 @@ BlockPrinted room p l index r = (t : Prepared p l) → Prints (length (block roo
 
 -- every line that the text answers
 abbrev pub AllPrinted : Read → Lent → Printed → Type 0
-AllPrinted p l r = (t : Prepared p l) → Prints (length (answer-lines t.text)) r
+AllPrinted p l r = (t : Prepared p l) → Prints (length (answer_lines t.text)) r

@@ -7,8 +7,8 @@
 // `print_block`, `show` and `main`.
 ghost use Rattle.std.specs.Prelude.{◌<◌, ◌≡◌, length};
 ghost use Rattle.io.specs.Counts.{IsPrefixLen};
-ghost use Rattle.texts.specs.Reading.{most-text};
-ghost use Rattle.drawing.specs.Answer.{answer-lines};
+ghost use Rattle.texts.specs.Reading.{most_text};
+ghost use Rattle.drawing.specs.Answer.{answer_lines};
 ghost use Rattle.drawing.specs.Prepared.{lent_of};
 ghost use Rattle.cluster.specs.Printing.{Prepared, Unprinted, BlockBytes, Prints, BlockPrinted, AllPrinted};
 
@@ -84,7 +84,7 @@ fn print(prepared: Read, row: &[u16], labels: &[u32], marks: &[u8]) -> Printed
 
 // The answer to a text, printed; how many lines. [B9] The rows suffice for every text.
 fn answer(text: &[u8]) -> Printed
-    ensures { Prints (length (answer-lines text.now)) result }
+    ensures { Prints (length (answer_lines text.now)) result }
 {
     let mut row = [0u16; rows::PLACES * GateNumber::MOST_GATES];
     let mut labels = [0u32; GateNumber::MOST_GATES];
@@ -96,9 +96,9 @@ fn answer(text: &[u8]) -> Printed
 // Standard input, as far as the row has room; how many bytes. [N1] A text that fills the row is too long, whatever is left
 // unread of it.
 fn read_text(text: &mut [u8]) -> usize
-    requires { most-text < length text.old }
+    requires { most_text < length text.old }
     ensures prefix_len { IsPrefixLen result text.new }
-    ensures lower_bound { result ≡ length text.new → most-text < result }
+    ensures lower_bound { result ≡ length text.new → most_text < result }
 {
     io::read_full(0, text)
 }

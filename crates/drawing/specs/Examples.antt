@@ -2,7 +2,7 @@
 use Rattle.std.specs.Prelude.{ℕ, ◌≡◌, List, [], ◌∷◌, ◌++◌, map}
 use Prim.Native.String.{String}
 use Rattle.frames.specs.Typed.{typed}
-use Rattle.drawing.specs.Answer.{answer-lines}
+use Rattle.drawing.specs.Answer.{answer_lines}
 
 -- a text, and the lines that it answers
 pub record Row : Type 0 where
@@ -112,4 +112,4 @@ rows =
 
 -- Each text of the table answers its lines, and no others.
 abbrev pub Worked : Type 0
-Worked = map (λ r. answer-lines r.text) rows ≡ map (λ r. r.printed) rows
+Worked = map (λ r. answer_lines r.text) rows ≡ map (λ r. r.printed) rows

@@ -8,7 +8,7 @@ use Rattle.texts.specs.Reading.{network, reading}
 use Rattle.rows.specs.declared.Read.{Read}
 use Rattle.rows.specs.declared.Read.TheVariants.{Refused}
 use Rattle.results.specs.declared.block.Block.{Block}
-use Rattle.drawing.specs.Prepared.{Lent, any-short, PreparedInto, Told, ToldLines}
+use Rattle.drawing.specs.Prepared.{Lent, any_short, PreparedInto, Told, ToldLines}
 
 -- A build, by what it does. With a text and the rows lent for it: what preparing answers, and how it leaves these rows. With
 -- what was prepared, an index, the rows and a row to write into: what telling a line or a block answers, and how it
@@ -18,21 +18,21 @@ pub record Build : Type 0 where
   pub rows : List ℕ → Lent → Lent
   pub told : Read → ℕ → Lent → List ℕ → Written
   pub line : Read → ℕ → Lent → List ℕ → List ℕ
-  pub told-lines : Read → ℕ → Lent → List ℕ → Block
+  pub told_lines : Read → ℕ → Lent → List ℕ → Block
   pub lines : Read → ℕ → Lent → List ℕ → List ℕ
 
 -- It keeps the promises, whatever it is given: these are the contracts of the three functions.
 pub record Keeps (b : Build) : Type 0 where
   pub prepare : (text : List ℕ) (before : Lent) → PreparedInto text before (b.prepared text before) (b.rows text before)
   pub tell : (p : Read) (index : ℕ) (l : Lent) (out : List ℕ) → Told p index l out (b.told p index l out) (b.line p index l out)
-  pub tell-lines :
-      (p : Read) (index : ℕ) (l : Lent) (out : List ℕ) → ToldLines p index l out (b.told-lines p index l out) (b.lines p index l out)
+  pub tell_lines :
+      (p : Read) (index : ℕ) (l : Lent) (out : List ℕ) → ToldLines p index l out (b.told_lines p index l out) (b.lines p index l out)
 
 -- A text that spells a network, and rows with room for it. A build is worthless for what it does with these; whatever it does
 -- with other texts and with shorter rows, it falls.
 pub record Accepted (text : List ℕ) (l : Lent) (n : Network) : Type 0 where
   pub reads : reading text ≡ network n
-  pub roomy : any-short (size n) l ≡ false
+  pub roomy : any_short (size n) l ≡ false
 
 -- It refuses every text, each by any number, line and column.
 abbrev pub RefusesAll : Build → Type 0
@@ -63,10 +63,10 @@ FirstGateOnly b =
 -- label has to be 1 and is 0; one that labels the first gate only, since the second has to be 2 and is 0. One with a fixed
 -- result falls since A with M 1 has another output delay: the first lines have to be 110000000A0003 and 110000000F0005.
 pub record Fallen (b : Build) : Type 0 where
-  pub refuses-all : RefusesAll b → ⊥
-  pub fixed-result : FixedResult b → ⊥
+  pub refuses_all : RefusesAll b → ⊥
+  pub fixed_result : FixedResult b → ⊥
   pub writes_nothing : WritesNothing b → ⊥
-  pub first-gate-only : FirstGateOnly b → ⊥
+  pub first_gate_only : FirstGateOnly b → ⊥
 
 -- [T5] No build that keeps the promises is one of them.
 abbrev pub WorthlessFall : Type 0

@@ -3,7 +3,7 @@
 // have room.
 ghost use Rattle.std.specs.Prelude.{◌≡◌};
 ghost use Rattle.texts.specs.Reading.{reading};
-ghost use Rattle.drawing.specs.Prepared.{lent_of, any-short, prepared-lent, PreparedInto, Told, ToldLines};
+ghost use Rattle.drawing.specs.Prepared.{lent_of, any_short, prepared_lent, PreparedInto, Told, ToldLines};
 ghost use Rattle.drawing.specs.steps.Preparing.{Readable};
 
 use frames::{Refusal, Written};
@@ -12,7 +12,7 @@ use rows::{Header, Read};
 
 // Whether a row is shorter than so many gates need.
 fn too_short(gates: usize, row: &[u16], labels: &[u32], marks: &[u8]) -> bool
-    ensures { result ≡ any-short gates (lent_of row.now labels.now marks.now) }
+    ensures { result ≡ any_short gates (lent_of row.now labels.now marks.now) }
 {
     rows::too_short(gates, row) || labels.len() < gates || marks.len() < gates
 }
@@ -21,7 +21,7 @@ fn too_short(gates: usize, row: &[u16], labels: &[u32], marks: &[u8]) -> bool
 fn fill(text: &[u8], header: Header, row: &mut [u16], labels: &mut [u32], marks: &mut [u8])
     requires { Readable text.now header (lent_of row.old labels.old marks.old) }
     ensures { lent_of row.new labels.new marks.new
-        ≡ prepared-lent (reading text.now) (lent_of row.old labels.old marks.old) }
+        ≡ prepared_lent (reading text.now) (lent_of row.old labels.old marks.old) }
 {
     reading::read(text, row);
     labelling::label(header, row, labels);

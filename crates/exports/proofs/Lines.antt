@@ -8,10 +8,10 @@ use Rattle.drawing.specs.Prepared.{Lent, PreparedInto, Told}
 use Rattle.drawing.specs.Headline.{Ample}
 use Rattle.drawing.proofs.Headline.{headline}
 use Rattle.exports.specs.declared.Answer.{Answer}
-use Rattle.exports.specs.Exported.{line-told, LineOut}
+use Rattle.exports.specs.Exported.{line_told, LineOut}
 
-pub line-out : {text : List ℕ} {before after : Lent} {p : Read} {index : ℕ} {out : List ℕ} {w : Written} {row : List ℕ} {r : Answer}
-    → Ample before → PreparedInto text before p after → Told p index after out w row → r ≡ line-told w → LineOut text index out r row
-line-out {text} {before} {after} {p} {index} {out} {w} {row} room prepared told e =
+pub line_out : {text : List ℕ} {before after : Lent} {p : Read} {index : ℕ} {out : List ℕ} {w : Written} {row : List ℕ} {r : Answer}
+    → Ample before → PreparedInto text before p after → Told p index after out w row → r ≡ line_told w → LineOut text index out r row
+line_out {text} {before} {after} {p} {index} {out} {w} {row} room prepared told e =
     let l = (headline text before after p room prepared).line index out w row told in
-    record { answer = e ∙ ap line-told l.answer; kept = l.kept }
+    record { answer = e ∙ ap line_told l.answer; kept = l.kept }

@@ -5,9 +5,9 @@ use Rattle.exports.proofs.lykophene_label.Reads as label
 use Rattle.exports.proofs.lykophene_line.Reads as line
 
 -- The row of labels is the last of five parameters.
-pub lykophene-label-unique : OneOutcome label.Learnt (λ κs exit. exit.1.1.1.1.0.now)
-lykophene-label-unique κs args r s exit exit' p q = (same p.answer q.answer, same p.kept q.kept)
+pub lykophene_label_unique : OneOutcome label.Learnt (λ κs exit. exit.1.1.1.1.0.now)
+lykophene_label_unique κs args r s exit exit' p q = (same p.answer q.answer, same p.kept q.kept)
 
 -- The text is lent to be read; the row is the third parameter.
-pub lykophene-line-unique : OneOutcome line.Learnt (λ κs exit. exit.1.1.0.now)
-lykophene-line-unique κs args r s exit exit' p q = (same p.answer q.answer, same p.kept q.kept)
+pub lykophene_line_unique : OneOutcome line.Learnt (λ κs exit. exit.1.1.0.now)
+lykophene_line_unique κs args r s exit exit' p q = (same p.answer q.answer, same p.kept q.kept)

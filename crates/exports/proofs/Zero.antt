@@ -11,64 +11,64 @@ use native.Mathlib.Omega.{arith}
 use Rattle.model.specs.Network.{size}
 use Rattle.frames.specs.Refusal.{no_room}
 use Rattle.frames.specs.declared.Written.TheVariants as Written
-use Rattle.frames.specs.Put.{line-answer}
-use Rattle.frames.proofs.Fault.{passes, passed-by}
+use Rattle.frames.specs.Put.{line_answer}
+use Rattle.frames.proofs.Fault.{passes, passed_by}
 use Rattle.texts.specs.Reading.{Reading, refused, network, reading}
 use Rattle.rows.specs.declared.Header.{Header}
 use Rattle.rows.specs.Row.{too_short}
-use Rattle.rows.specs.Read.{answer, in-room}
-use Rattle.rows.specs.Spelling.{row-answer, spell}
+use Rattle.rows.specs.Read.{answer, in_room}
+use Rattle.rows.specs.Spelling.{row_answer, spell}
 use Rattle.labelling.specs.declared.Labelled.TheVariants as Labelled
-use Rattle.labelling.specs.Promises.{label-answer}
+use Rattle.labelling.specs.Promises.{label_answer}
 use Rattle.drawing.proofs.Demands.{finished}
-use Rattle.exports.specs.Exported.{label-told, line-told, ZeroIsNone}
+use Rattle.exports.specs.Exported.{label_told, line_told, ZeroIsNone}
 
 -- a refusal has a number above 0
 abbrev Numbered : Reading → Type 0
 Numbered (refused f) = 1 ≤ f.number
 Numbered (network n) = Unit {0}
 
-text-numbered : (text : List ℕ) → Numbered (reading text)
-unfolding answer in-room
-text-numbered text = go (reading text) refl
+text_numbered : (text : List ℕ) → Numbered (reading text)
+unfolding answer in_room
+text_numbered text = go (reading text) refl
   where
     go : (r : Reading) → reading text ≡ r → Numbered r
-    go (refused f) e = leb-true 1 f.number (passed-by (leb 1) ((finished text []).number f (rw e)) (unfold passes in refl))
+    go (refused f) e = leb-true 1 f.number (passed_by (leb 1) ((finished text []).number f (rw e)) (unfold passes in refl))
     go (network n) e = tt
 
-row-numbered : (h : Header) (row : List ℕ) → Numbered (row-answer h row)
-unfolding row-answer
-row-numbered h row = go (too_short h.gates row)
+row_numbered : (h : Header) (row : List ℕ) → Numbered (row_answer h row)
+unfolding row_answer
+row_numbered h row = go (too_short h.gates row)
   where
     go : (short : Bool) → Numbered (cond short (refused no_room) (reading (spell h row)))
     go true = omega arith
-    go false = text-numbered (spell h row)
+    go false = text_numbered (spell h row)
 
-label-told-0 :
+label_told_0 :
     (h : Header) (row labels : List ℕ)
-    → ((label-told (label-answer (row-answer h row) labels)).number ≡ 0) ↔ (label-answer (row-answer h row) labels ≡ Labelled.Done)
-unfolding label-told label-answer
-label-told-0 h row labels = (go (row-answer h row) (row-numbered h row), λ e. rw e)
+    → ((label_told (label_answer (row_answer h row) labels)).number ≡ 0) ↔ (label_answer (row_answer h row) labels ≡ Labelled.Done)
+unfolding label_told label_answer
+label_told_0 h row labels = (go (row_answer h row) (row_numbered h row), λ e. rw e)
   where
-    room : (short : Bool) → (label-told (cond short (Labelled.Refused no_room) Labelled.Done)).number ≡ 0
+    room : (short : Bool) → (label_told (cond short (Labelled.Refused no_room) Labelled.Done)).number ≡ 0
         → cond short (Labelled.Refused no_room) Labelled.Done ≡ Labelled.Done
     room true z = absurd (omega (arith, z))
     room false z = refl
 
-    go : (r : Reading) → Numbered r → (label-told (label-answer r labels)).number ≡ 0 → label-answer r labels ≡ Labelled.Done
+    go : (r : Reading) → Numbered r → (label_told (label_answer r labels)).number ≡ 0 → label_answer r labels ≡ Labelled.Done
     go (refused f) one z = absurd (omega (arith, one, z))
     go (network n) one z = room (ltb (length labels) (size n)) z
 
-line-told-0 :
+line_told_0 :
     (line out : List ℕ)
-    → ((line-told (line-answer line out)).number ≡ 0) ↔ (line-answer line out ≡ Written.Line (length line))
-unfolding line-told line-answer
-line-told-0 line out = (go (ltb (length out) (length line)), λ e. rw e)
+    → ((line_told (line_answer line out)).number ≡ 0) ↔ (line_answer line out ≡ Written.Line (length line))
+unfolding line_told line_answer
+line_told_0 line out = (go (ltb (length out) (length line)), λ e. rw e)
   where
-    go : (short : Bool) → (line-told (cond short (Written.Refused no_room) (Written.Line (length line)))).number ≡ 0
+    go : (short : Bool) → (line_told (cond short (Written.Refused no_room) (Written.Line (length line)))).number ≡ 0
         → cond short (Written.Refused no_room) (Written.Line (length line)) ≡ Written.Line (length line)
     go true z = absurd (omega (arith, z))
     go false z = refl
 
-pub zero-is-none : ZeroIsNone
-zero-is-none = record { labels = label-told-0; line = line-told-0 }
+pub zero_is_none : ZeroIsNone
+zero_is_none = record { labels = label_told_0; line = line_told_0 }

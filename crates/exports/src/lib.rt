@@ -8,7 +8,7 @@
 //     struct lykophene_answer lykophene_line(const uint8_t *text, size_t text_length, size_t index,
 //         uint8_t *out, size_t out_length);
 ghost use Rattle.std.specs.Prelude.{◌≡◌};
-ghost use Rattle.exports.specs.Exported.{header-from, refused, done, LabelledOut, LineOut};
+ghost use Rattle.exports.specs.Exported.{header_from, refused, done, LabelledOut, LineOut};
 
 use frames::{Refusal, Written};
 use labelling::Labelled;
@@ -58,7 +58,7 @@ pub extern "C" fn lykophene_label(
     row: &[u16],
     labels: &mut [u32],
 ) -> Answer
-    ensures { LabelledOut (header-from capacity hop gates) row.now labels.old result labels.new }
+    ensures { LabelledOut (header_from capacity hop gates) row.now labels.old result labels.new }
 {
     let header = Header {
         capacity: Cells(capacity as u64),

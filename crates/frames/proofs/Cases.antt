@@ -93,6 +93,6 @@ cases =
     ∷ ended "0F0200" at AfterGates 512 gives none
     ∷ []
 
-cases-hold : map found cases ≡ map given cases
+cases_hold : map found cases ≡ map given cases
 unfolding cases found given
-cases-hold = refl
+cases_hold = refl

@@ -7,7 +7,7 @@ use mathlib.Core.Option.{none}
 use native.Mathlib.Omega.{arith}
 use lib.ListN.{length, get_or, drop}
 use lib.Dec.{ltb}
-use Rattle.model.specs.Ceilings.{most-fanins}
+use Rattle.model.specs.Ceilings.{most_fanins}
 use borrow.Author.Tests.{eqb-true, not-false}
 use Rattle.units.specs.declared.Cells.{Cells}
 use Rattle.units.specs.declared.Ticks.{Ticks}
@@ -15,48 +15,48 @@ use Rattle.units.specs.declared.FanInCount.{FanInCount}
 use Rattle.frames.specs.declared.Place.{Place}
 use Rattle.frames.specs.declared.LineRead.TheVariants.{Gate}
 use Rattle.frames.specs.Text.{Line, lines}
-use Rattle.frames.specs.Table.{fault, kind, frame-length, gate-count, gate-fanins}
-use Rattle.frames.specs.Frames.{line_read, fan-in-from}
-use Rattle.frames.specs.steps.Cut.{line-from, line-length}
+use Rattle.frames.specs.Table.{fault, kind, frame_length, gate_count, gate_fanins}
+use Rattle.frames.specs.Frames.{line_read, fan_in_from}
+use Rattle.frames.specs.steps.Cut.{line_from, line_length}
 use Rattle.frames.proofs.Tests.{never}
 use Rattle.frames.proofs.Formed.{formed}
 use Rattle.frames.proofs.Rows.{faultless}
-use Rattle.frames.proofs.OfLine.{length-is, fanins-length, fanin-is}
-use Rattle.frames.proofs.Gate.{gate-length}
+use Rattle.frames.proofs.OfLine.{length_is, fanins_length, fanin_is}
+use Rattle.frames.proofs.Gate.{gate_length}
 use Rattle.frames.proofs.Lines.{lines_from}
-use Rattle.frames.proofs.Told.{frame-told, gate-is}
+use Rattle.frames.proofs.Told.{frame_told, gate_is}
 
 pub record FanInsRead (text : List ℕ) (at count : ℕ) (l : Line) : Type 0 where
-  pub counted : gate-count l ≡ count
-  pub as_many : length (gate-fanins l) ≡ count
-  pub each : (i : ℕ) → i < count → fan-in-from text at i ≡ get_or (gate-fanins l) i 0
+  pub counted : gate_count l ≡ count
+  pub as_many : length (gate_fanins l) ≡ count
+  pub each : (i : ℕ) → i < count → fan_in_from text at i ≡ get_or (gate_fanins l) i 0
 
 -- A faultless gate line has room for its fan-ins and for nothing else.
 second : (a b : Bool) → (a || not b) ≡ false → b ≡ true
 second true b e = never cc
 second false b e = not-false b e
 
-fan-ins-of : (text : List ℕ) (at end : ℕ) (p : Place) (count : ℕ) → fault p (line-from text at end) ≡ none
-    → kind (line-from text at end) ≡ 0x02 → gate-count (line-from text at end) ≡ count → FanInsRead text at count (line-from text at end)
-fan-ins-of text at end p count e is counted =
-    let l = line-from text at end in
+fan_ins_of : (text : List ℕ) (at end : ℕ) (p : Place) (count : ℕ) → fault p (line_from text at end) ≡ none
+    → kind (line_from text at end) ≡ 0x02 → gate_count (line_from text at end) ≡ count → FanInsRead text at count (line_from text at end)
+fan_ins_of text at end p count e is counted =
+    let l = line_from text at end in
     let given = faultless p l e in
     let form = formed text at end given.formed in
-    let whole : frame-length l ≡ 6 + 2 * gate-count l =
-    eqb-true _ _ (second (ltb most-fanins (gate-count l)) _ (sym (gate-length p l is) ∙ given.right-length)) in
-    let digits : end - at ≡ 12 + 4 * count = omega (arith, length-is form) in
+    let whole : frame_length l ≡ 6 + 2 * gate_count l =
+    eqb-true _ _ (second (ltb most_fanins (gate_count l)) _ (sym (gate_length p l is) ∙ given.right_length)) in
+    let digits : end - at ≡ 12 + 4 * count = omega (arith, length_is form) in
     record {
       counted = counted;
-      as_many = fanins-length form count digits;
-      each = λ i h. sym (fanin-is form count digits i h);
+      as_many = fanins_length form count digits;
+      each = λ i h. sym (fanin_is form count digits i h);
     }
 
-pub fan-ins-read : (text : List ℕ) (at : ℕ) (p : Place) (line : ℕ) (weight : Cells) (delay : Ticks) (count : FanInCount) (next : ℕ)
+pub fan_ins_read : (text : List ℕ) (at : ℕ) (p : Place) (line : ℕ) (weight : Cells) (delay : Ticks) (count : FanInCount) (next : ℕ)
     (l : Line) (ls : List Line) → lines (drop at text) ≡ l ∷ ls → line_read text at p line ≡ Gate weight delay count next → FanInsRead text at count.0 l
-fan-ins-read text at p line weight delay count next l ls e r =
-    let end = at + line-length (drop at text) in
-    let read = frame-told text at p line (Gate weight delay count next) next r refl in
-    let here : line-from text at end ≡ read.line = cc (lines_from text at end (omega arith) refl) in
-    let gate = gate-is read.line next read.is in
+fan_ins_read text at p line weight delay count next l ls e r =
+    let end = at + line_length (drop at text) in
+    let read = frame_told text at p line (Gate weight delay count next) next r refl in
+    let here : line_from text at end ≡ read.line = cc (lines_from text at end (omega arith) refl) in
+    let gate = gate_is read.line next read.is in
     subst (λ m. FanInsRead text at count.0 m) (cc)
-    (fan-ins-of text at end p count.0 (ap (fault p) here ∙ read.right) (ap kind here ∙ gate.0) (ap gate-count here ∙ sym gate.3))
+    (fan_ins_of text at end p count.0 (ap (fault p) here ∙ read.right) (ap kind here ∙ gate.0) (ap gate_count here ∙ sym gate.3))

@@ -11,16 +11,16 @@ use lib.Dec.{ltb, eqb, leb-suc-suc}
 use borrow.Author.Tests.{lt-ltb, le-ltb}
 use Rattle.frames.specs.declared.Place.{Place}
 use Rattle.frames.specs.declared.LineRead.TheVariants.{Nothing}
-use Rattle.frames.specs.Text.{Line, line-feed, begin, lines}
+use Rattle.frames.specs.Text.{Line, line_feed, begin, lines}
 use Rattle.frames.specs.Frames.{judged, first_read, line_read}
-use Rattle.frames.specs.steps.Cut.{line-length, line-from}
+use Rattle.frames.specs.steps.Cut.{line_length, line_from}
 
-pub length_most : (bs : List ℕ) → line-length bs ≤ length bs
-unfolding line-length
+pub length_most : (bs : List ℕ) → line_length bs ≤ length bs
+unfolding line_length
 length_most [] = omega arith
-length_most (b ∷ bs) = by (eqb b line-feed) (length_most bs)
+length_most (b ∷ bs) = by (eqb b line_feed) (length_most bs)
   where
-    by : (t : Bool) → line-length bs ≤ length bs → cond t 0 (suc (line-length bs)) ≤ suc (length bs)
+    by : (t : Bool) → line_length bs ≤ length bs → cond t 0 (suc (line_length bs)) ≤ suc (length bs)
     by true h = omega arith
     by false h = omega arith
 
@@ -29,23 +29,23 @@ abbrev cut : List ℕ → ℕ → Line
 cut bs n = record { digits = take n bs; ended = ltb n (length bs) }
 
 -- one byte more in front
-cut-begin : (b : ℕ) (bs : List ℕ) (n : ℕ) (ls : List Line) → begin b (cut bs n ∷ ls) ≡ cut (b ∷ bs) (suc n) ∷ ls
+cut_begin : (b : ℕ) (bs : List ℕ) (n : ℕ) (ls : List Line) → begin b (cut bs n ∷ ls) ≡ cut (b ∷ bs) (suc n) ∷ ls
 unfolding begin
-cut-begin b bs n ls = rw (leb-suc-suc (suc n) (length bs))
+cut_begin b bs n ls = rw (leb-suc-suc (suc n) (length bs))
 
 cut_step : (t : Bool) (b : ℕ) (bs : List ℕ)
-    → begin b (lines bs) ≡ cut (b ∷ bs) (suc (line-length bs)) ∷ lines (drop (suc (line-length bs)) bs)
+    → begin b (lines bs) ≡ cut (b ∷ bs) (suc (line_length bs)) ∷ lines (drop (suc (line_length bs)) bs)
     → cond t (record { digits = []; ended = true } ∷ lines bs) (begin b (lines bs))
-    ≡ cut (b ∷ bs) (cond t 0 (suc (line-length bs))) ∷ lines (drop (cond t 0 (suc (line-length bs))) bs)
+    ≡ cut (b ∷ bs) (cond t 0 (suc (line_length bs))) ∷ lines (drop (cond t 0 (suc (line_length bs))) bs)
 cut_step true b bs h = rw (lt-ltb 0 (suc (length bs)) (omega arith))
 cut_step false b bs h = h
 
 lines_cut : (b : ℕ) (bs : List ℕ)
-    → lines (b ∷ bs) ≡ cut (b ∷ bs) (line-length (b ∷ bs)) ∷ lines (drop (suc (line-length (b ∷ bs))) (b ∷ bs))
-unfolding lines line-length
-lines_cut b [] = cut_step (eqb b line-feed) b [] refl
+    → lines (b ∷ bs) ≡ cut (b ∷ bs) (line_length (b ∷ bs)) ∷ lines (drop (suc (line_length (b ∷ bs))) (b ∷ bs))
+unfolding lines line_length
+lines_cut b [] = cut_step (eqb b line_feed) b [] refl
 lines_cut b (c ∷ bs) =
-    cut_step (eqb b line-feed) b (c ∷ bs) (ap (begin b) (lines_cut c bs) ∙ cut-begin b (c ∷ bs) (line-length (c ∷ bs)) (lines (drop (suc (line-length (c ∷ bs))) (c ∷ bs))))
+    cut_step (eqb b line_feed) b (c ∷ bs) (ap (begin b) (lines_cut c bs) ∙ cut_begin b (c ∷ bs) (line_length (c ∷ bs)) (lines (drop (suc (line_length (c ∷ bs))) (c ∷ bs))))
 
 -- a part of the text, cut from its front or behind its start
 slice_cut : (at n m : ℕ) (text : List ℕ) → m ≡ at + n → take n (drop at text) ≡ slice at m text
@@ -54,33 +54,33 @@ slice_cut (suc at) n m [] e = simp take-nil
 slice_cut (suc at) n zero (x ∷ text) e = absurd (omega arith)
 slice_cut (suc at) n (suc m) (x ∷ text) e = slice_cut at n m text (omega arith)
 
-lines-some : (bs : List ℕ) → 0 < length bs → lines bs ≡ cut bs (line-length bs) ∷ lines (drop (suc (line-length bs)) bs)
-lines-some [] h = absurd (omega arith)
-lines-some (b ∷ bs) h = lines_cut b bs
+lines_some : (bs : List ℕ) → 0 < length bs → lines bs ≡ cut bs (line_length bs) ∷ lines (drop (suc (line_length bs)) bs)
+lines_some [] h = absurd (omega arith)
+lines_some (b ∷ bs) h = lines_cut b bs
 
 -- The lines from a place of the text on: the one that begins there, and those behind its line feed.
-module _ (text : List ℕ) (at end : ℕ) (inside : at < length text) (ends : end ≡ at + line-length (drop at text)) where
-  ended-there : ltb (line-length (drop at text)) (length (drop at text)) ≡ ltb end (length text)
-  ended-there =
-      let n = line-length (drop at text) in
+module _ (text : List ℕ) (at end : ℕ) (inside : at < length text) (ends : end ≡ at + line_length (drop at text)) where
+  ended_there : ltb (line_length (drop at text)) (length (drop at text)) ≡ ltb end (length text)
+  ended_there =
+      let n = line_length (drop at text) in
       let rest = length (drop at text) in
       elim (dec_lt end (length text)) [
         | yes h ↦ lt-ltb n rest (omega (arith, length-drop at text)) ∙ sym (lt-ltb end (length text) h)
         | no h ↦ le-ltb n rest (omega (arith, length-drop at text)) ∙ sym (le-ltb end (length text) (omega arith))
       ]
 
-  pub lines_from : lines (drop at text) ≡ line-from text at end ∷ lines (drop (end + 1) text)
+  pub lines_from : lines (drop at text) ≡ line_from text at end ∷ lines (drop (end + 1) text)
   lines_from =
-      let behind : at + suc (line-length (drop at text)) ≡ end + 1 = omega arith in
-      lines-some (drop at text) (omega (arith, length-drop at text))
+      let behind : at + suc (line_length (drop at text)) ≡ end + 1 = omega arith in
+      lines_some (drop at text) (omega (arith, length-drop at text))
       ∙ ap₂ (λ l ls. l ∷ ls)
-      (λ i. record { digits = slice_cut at (line-length (drop at text)) end text ends i; ended = ended-there i })
-      (ap lines (drop-drop (suc (line-length (drop at text))) at text ∙ ap (λ k. drop k text) behind))
+      (λ i. record { digits = slice_cut at (line_length (drop at text)) end text ends i; ended = ended_there i })
+      (ap lines (drop-drop (suc (line_length (drop at text))) at text ∙ ap (λ k. drop k text) behind))
 
-  pub end-most : end ≤ length text
-  end-most = omega (arith, length_most (drop at text), length-drop at text)
+  pub end_most : end ≤ length text
+  end_most = omega (arith, length_most (drop at text), length-drop at text)
 
-  pub read_first : (p : Place) (line : ℕ) → line_read text at p line ≡ judged at p line (line-from text at end)
+  pub read_first : (p : Place) (line : ℕ) → line_read text at p line ≡ judged at p line (line_from text at end)
   unfolding line_read
   read_first p line = ap (first_read at p line) lines_from
 

@@ -11,7 +11,7 @@ use lib.Seq.{sets, length-sets, take-suc}
 use lib.Dec.{leb}
 use borrow.Author.Tests.{le-leb, lt-leb, leb-true, leb-false}
 use Rattle.model.specs.Basics.{gather}
-use Rattle.frames.specs.Digits.{byte-digits, word_bytes, digits}
+use Rattle.frames.specs.Digits.{byte_digits, word_bytes, digits}
 use Rattle.frames.specs.Put.{room, Put}
 
 -- The digits of these bytes stand in the row from that place on, and next is the place past them.
@@ -26,9 +26,9 @@ has_room at needed len e t = leb-true (at + needed) len (sym e ∙ t)
 pub no_room : (at needed len : ℕ) {r : Bool} → r ≡ leb (at + needed) len → r ≡ false → len < at + needed
 no_room at needed len e t = leb-false (at + needed) len (sym e ∙ t)
 
-pub put-none : (bs : List ℕ) (at : ℕ) (out : List ℕ) → length out < at + length (digits bs) → Put bs at out at out
+pub put_none : (bs : List ℕ) (at : ℕ) (out : List ℕ) → length out < at + length (digits bs) → Put bs at out at out
 unfolding room
-put-none bs at out h =
+put_none bs at out h =
     let e : leb (at + length (digits bs)) (length out) ≡ false = lt-leb _ _ h in
     record { answer = rw e; kept = rw e }
 
@@ -38,15 +38,15 @@ put_all bs at out next row h s =
     let e : leb (at + length (digits bs)) (length out) ≡ true = le-leb _ _ h in
     record { answer = rw e s.past; kept = rw e s.row_is }
 
-pub put-stands : (bs : List ℕ) (at : ℕ) (out : List ℕ) (next : ℕ) (row : List ℕ) → at + length (digits bs) ≤ length out → Put bs at out next row → Stands bs at out next row
+pub put_stands : (bs : List ℕ) (at : ℕ) (out : List ℕ) (next : ℕ) (row : List ℕ) → at + length (digits bs) ≤ length out → Put bs at out next row → Stands bs at out next row
 unfolding room
-put-stands bs at out next row h p =
+put_stands bs at out next row h p =
     let e : leb (at + length (digits bs)) (length out) ≡ true = le-leb _ _ h in
     record { past = rw e at p.answer; row_is = rw e at p.kept }
 
-pub sets-append : (l : List ℕ) (i : ℕ) (xs ys : List ℕ) → sets l i (xs ++ ys) ≡ sets (sets l i xs) (i + length xs) ys
-sets-append l i [] ys = rw add-zero
-sets-append l i (x ∷ xs) ys = rw (sets-append (set l i x) (suc i) xs ys, add-suc, suc-add)
+pub sets_append : (l : List ℕ) (i : ℕ) (xs ys : List ℕ) → sets l i (xs ++ ys) ≡ sets (sets l i xs) (i + length xs) ys
+sets_append l i [] ys = rw add-zero
+sets_append l i (x ∷ xs) ys = rw (sets_append (set l i x) (suc i) xs ys, add-suc, suc-add)
 
 pub gather_append : (f : ℕ → List ℕ) (xs ys : List ℕ) → gather f (xs ++ ys) ≡ gather f xs ++ gather f ys
 unfolding gather
@@ -55,33 +55,33 @@ gather_append f (x ∷ xs) ys = rw (gather_append f xs ys, append_assoc)
 
 digits_append : (xs ys : List ℕ) → digits (xs ++ ys) ≡ digits xs ++ digits ys
 unfolding digits
-digits_append xs ys = gather_append byte-digits xs ys
+digits_append xs ys = gather_append byte_digits xs ys
 
 -- Bytes put past bytes that stand already: all of them stand, one after the other.
-pub stands-then : (xs ys : List ℕ) (at : ℕ) (out : List ℕ) (mid : ℕ) (part : List ℕ) (next : ℕ) (row : List ℕ)
+pub stands_then : (xs ys : List ℕ) (at : ℕ) (out : List ℕ) (mid : ℕ) (part : List ℕ) (next : ℕ) (row : List ℕ)
     → at + length (digits (xs ++ ys)) ≤ length out → Stands xs at out mid part → Put ys mid part next row → Stands (xs ++ ys) at out next row
-stands-then xs ys at out mid part next row h s p =
+stands_then xs ys at out mid part next row h s p =
     let both : length (digits (xs ++ ys)) ≡ length (digits xs) + length (digits ys) = ap length (digits_append xs ys) ∙ length-append (digits xs) (digits ys) in
     let kept : length part ≡ length out = ap length s.row_is ∙ length-sets out at (digits xs) in
-    let t : Stands ys mid part next row = put-stands ys mid part next row (omega (arith, s.past)) p in
+    let t : Stands ys mid part next row = put_stands ys mid part next row (omega (arith, s.past)) p in
     record {
       past = omega arith;
       row_is =
           t.row_is
-          ∙ cc (sets-append out at (digits xs) (digits ys), digits_append xs ys, s.past, s.row_is);
+          ∙ cc (sets_append out at (digits xs) (digits ys), digits_append xs ys, s.past, s.row_is);
     }
 
 pub puts : (xs ys : List ℕ) (at : ℕ) (out : List ℕ) (mid : ℕ) (part : List ℕ) (next : ℕ) (row : List ℕ)
     → at + length (digits (xs ++ ys)) ≤ length out → Put xs at out mid part → Put ys mid part next row → Put (xs ++ ys) at out next row
 puts xs ys at out mid part next row h p q =
     let both : length (digits (xs ++ ys)) ≡ length (digits xs) + length (digits ys) = ap length (digits_append xs ys) ∙ length-append (digits xs) (digits ys) in
-    put_all (xs ++ ys) at out next row h (stands-then xs ys at out mid part next row h (put-stands xs at out mid part (omega arith) p) q)
+    put_all (xs ++ ys) at out next row h (stands_then xs ys at out mid part next row h (put_stands xs at out mid part (omega arith) p) q)
 
 -- Words are four digits each.
-pub length-words : (ws : List ℕ) → length (digits (gather word_bytes ws)) ≡ 4 * length ws
-unfolding digits gather byte-digits word_bytes
-length-words [] = refl
-length-words (w ∷ ws) = let rest : length (digits (gather word_bytes ws)) ≡ 4 * length ws = length-words ws in omega arith
+pub length_words : (ws : List ℕ) → length (digits (gather word_bytes ws)) ≡ 4 * length ws
+unfolding digits gather byte_digits word_bytes
+length_words [] = refl
+length_words (w ∷ ws) = let rest : length (digits (gather word_bytes ws)) ≡ 4 * length ws = length_words ws in omega arith
 
 words_snoc : (ws : List ℕ) (i : ℕ) → i < length ws → gather word_bytes (take (i + 1) ws) ≡ gather word_bytes (take i ws) ++ word_bytes (get_or ws i 0)
 unfolding gather word_bytes
@@ -94,13 +94,13 @@ pub words_more : (ws : List ℕ) (i at : ℕ) (out : List ℕ) (mid : ℕ) (part
 words_more ws i at out mid part next row more h s p =
     let e : gather word_bytes (take (i + 1) ws) ≡ gather word_bytes (take i ws) ++ word_bytes (get_or ws i 0) = words_snoc ws i more in
     let fits : at + length (digits (gather word_bytes (take (i + 1) ws))) ≤ length out =
-    simp (length-words, length-take) (omega arith)
+    simp (length_words, length-take) (omega arith)
     in
-    rw e (stands-then _ _ at out mid part next row (rw e at fits) s p)
+    rw e (stands_then _ _ at out mid part next row (rw e at fits) s p)
 
-pub stands-none : (at : ℕ) (out : List ℕ) → Stands [] at out at out
+pub stands_none : (at : ℕ) (out : List ℕ) → Stands [] at out at out
 unfolding digits gather
-stands-none at out = record { past = omega arith; row_is = refl }
+stands_none at out = record { past = omega arith; row_is = refl }
 
-pub stands-kept : {bs : List ℕ} {at : ℕ} {out : List ℕ} {next : ℕ} {row : List ℕ} → Stands bs at out next row → length row ≡ length out
-stands-kept {bs} {at} {out} s = ap length s.row_is ∙ length-sets out at (digits bs)
+pub stands_kept : {bs : List ℕ} {at : ℕ} {out : List ℕ} {next : ℕ} {row : List ℕ} → Stands bs at out next row → length row ≡ length out
+stands_kept {bs} {at} {out} s = ap length s.row_is ∙ length-sets out at (digits bs)

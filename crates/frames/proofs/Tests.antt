@@ -14,9 +14,9 @@ pub both_true : (a b : Bool) → (a && b) ≡ true → (a ≡ true) × (b ≡ tr
 both_true true b h = (refl, h)
 both_true false b h = never cc
 
-pub neither-true : (a b : Bool) → (a || b) ≡ false → (a ≡ false) × (b ≡ false)
-neither-true true b h = never cc
-neither-true false b h = (refl, h)
+pub neither_true : (a b : Bool) → (a || b) ≡ false → (a ≡ false) × (b ≡ false)
+neither_true true b h = never cc
+neither_true false b h = (refl, h)
 
 -- an answer that a test picks tells how the test went
 pub picked : {E : Type 0} (test : Bool) (a b : E) {r : E} → cond test a b ≡ r → ((test ≡ true) × (a ≡ r)) ⊎ ((test ≡ false) × (b ≡ r))

@@ -20,15 +20,15 @@ use Rattle.frames.specs.declared.Place.{Place}
 use Rattle.frames.specs.declared.LineRead.{LineRead}
 use Rattle.frames.specs.declared.LineRead.TheVariants.{Header, Gate, End, Refused, Nothing}
 use Rattle.frames.specs.declared.Refusal.{Refusal}
-use Rattle.frames.specs.Refusal.{at-column}
+use Rattle.frames.specs.Refusal.{at_column}
 use Rattle.frames.specs.Text.{Line, lines}
-use Rattle.frames.specs.Table.{fault, column, kind, header-capacity, header-hop, gate-of, gate-count}
+use Rattle.frames.specs.Table.{fault, column, kind, header_capacity, header_hop, gate_of, gate_count}
 use Rattle.frames.specs.Frames.{frame, told, judged, line_read}
-use Rattle.frames.specs.steps.Cut.{line-from, line-length}
+use Rattle.frames.specs.steps.Cut.{line_from, line_length}
 use Rattle.frames.proofs.Tests.{never}
 use Rattle.frames.proofs.Formed.{formed}
 use Rattle.frames.proofs.Rows.{faultless}
-use Rattle.frames.proofs.OfLine.{next-is}
+use Rattle.frames.proofs.OfLine.{next_is}
 use Rattle.frames.proofs.Lines.{lines_from, read_first, read_past}
 
 -- where the next line begins, if the answer is a frame
@@ -49,17 +49,17 @@ pub record FrameRead (text : List ℕ) (at : ℕ) (p : Place) (next : ℕ) (r : 
   pub inside : next ≤ length text
 
 -- The first line of those left has this fault, told at this number of a line.
-pub record FaultRead (text : List ℕ) (at : ℕ) (p : Place) (at-number : ℕ) (r : Refusal) : Type 0 where
+pub record FaultRead (text : List ℕ) (at : ℕ) (p : Place) (at_number : ℕ) (r : Refusal) : Type 0 where
   pub line : Line
   pub rest : List Line
   pub first : lines (drop at text) ≡ line ∷ rest
   pub wrong : fault p line ≡ some r.number
-  pub told-there : r ≡ at-column r.number at-number (column r.number line)
+  pub told_there : r ≡ at_column r.number at_number (column r.number line)
 
 -- A frame is the one that its type says.
 pub data Typed (l : Line) (n : ℕ) (r : LineRead) : Type 0 where
-  header : kind l ≡ 0x01 → r ≡ Header (cells (header-capacity l)) (ticks (header-hop l)) n → Typed l n r
-  gate : kind l ≡ 0x02 → r ≡ Gate (cells (gate-of l).weight) (ticks (gate-of l).delay) (record { 0 = gate-count l }) n → Typed l n r
+  header : kind l ≡ 0x01 → r ≡ Header (cells (header_capacity l)) (ticks (header_hop l)) n → Typed l n r
+  gate : kind l ≡ 0x02 → r ≡ Gate (cells (gate_of l).weight) (ticks (gate_of l).delay) (record { 0 = gate_count l }) n → Typed l n r
   end : (kind l ≡ 0x01 → ⊥) → (kind l ≡ 0x02 → ⊥) → r ≡ End n → Typed l n r
 
 pub typed : (l : Line) (n : ℕ) → Typed l n (frame l n)
@@ -68,14 +68,14 @@ typed l n = by (eqb (kind l) 0x01) (eqb (kind l) 0x02) refl refl
   where
     by : (t u : Bool) → eqb (kind l) 0x01 ≡ t → eqb (kind l) 0x02 ≡ u
         → Typed l n
-        (cond t (Header (cells (header-capacity l)) (ticks (header-hop l)) n)
-        (cond u (Gate (cells (gate-of l).weight) (ticks (gate-of l).delay) (record { 0 = gate-count l }) n) (End n)))
+        (cond t (Header (cells (header_capacity l)) (ticks (header_hop l)) n)
+        (cond u (Gate (cells (gate_of l).weight) (ticks (gate_of l).delay) (record { 0 = gate_count l }) n) (End n)))
     by true u e f = header (eqb-true _ _ e) refl
     by false true e f = gate (eqb-true _ _ f) refl
     by false false e f = end (eqb-false _ _ e) (eqb-false _ _ f) refl
 
-frame-next : (l : Line) (n : ℕ) → next_of (frame l n) ≡ some n
-frame-next l n = by (typed l n)
+frame_next : (l : Line) (n : ℕ) → next_of (frame l n) ≡ some n
+frame_next l n = by (typed l n)
   where
     by : Typed l n (frame l n) → next_of (frame l n) ≡ some n
     by (header k e) = ap next_of e
@@ -89,16 +89,16 @@ unfolding told
 none_told none line l f r next e n = (refl, e)
 none_told (some k) line l f r next e n = never (cc (ap next_of e))
 
-some-told : (o : Option ℕ) (line : ℕ) (l : Line) (f : LineRead) (n : ℕ) (r : Refusal) → next_of f ≡ some n → told o line l f ≡ Refused r
-    → (o ≡ some r.number) × (r ≡ at-column r.number line (column r.number l))
+some_told : (o : Option ℕ) (line : ℕ) (l : Line) (f : LineRead) (n : ℕ) (r : Refusal) → next_of f ≡ some n → told o line l f ≡ Refused r
+    → (o ≡ some r.number) × (r ≡ at_column r.number line (column r.number l))
 unfolding told
-some-told none line l f n r h e = never cc
-some-told (some j) line l f n r h e = let same : at-column j line (column j l) ≡ r = cc in rw (← same) (refl, refl)
+some_told none line l f n r h e = never cc
+some_told (some j) line l f n r h e = let same : at_column j line (column j l) ≡ r = cc in rw (← same) (refl, refl)
 
-nothing-judged : (o : Option ℕ) (line : ℕ) (l : Line) (f : LineRead) (n : ℕ) → next_of f ≡ some n → told o line l f ≡ Nothing → ⊥
+nothing_judged : (o : Option ℕ) (line : ℕ) (l : Line) (f : LineRead) (n : ℕ) → next_of f ≡ some n → told o line l f ≡ Nothing → ⊥
 unfolding told
-nothing-judged none line l f n h e = never cc
-nothing-judged (some j) line l f n h e = never cc
+nothing_judged none line l f n h e = never cc
+nothing_judged (some j) line l f n h e = never cc
 
 module _ (text : List ℕ) (at : ℕ) (p : Place) (line : ℕ) where
   -- no line is left, or there is a first one
@@ -108,13 +108,13 @@ module _ (text : List ℕ) (at : ℕ) (p : Place) (line : ℕ) where
   there : at < length text → (r : LineRead) (next : ℕ) → line_read text at p line ≡ r → next_of r ≡ some next → FrameRead text at p next r
   unfolding judged
   there h r next e n =
-      let end = at + line-length (drop at text) in
-      let l = line-from text at end in
+      let end = at + line_length (drop at text) in
+      let l = line_from text at end in
       let m = at + length (slice at end text) + 1 in
       let given = none_told (fault p l) line l (frame l m) r next (sym (read_first text at end h refl p line) ∙ e) n in
       let form = formed text at end (faultless p l given.0).formed in
-      let same : m ≡ next = cc (frame-next l m, ap next_of given.1) in
-      let behind : end + 1 ≡ next = sym (next-is form) ∙ same in
+      let same : m ≡ next = cc (frame_next l m, ap next_of given.1) in
+      let behind : end + 1 ≡ next = sym (next_is form) ∙ same in
       record {
         line = l;
         first = lines_from text at end h refl ∙ ap (λ k. l ∷ lines (drop k text)) behind;
@@ -124,55 +124,55 @@ module _ (text : List ℕ) (at : ℕ) (p : Place) (line : ℕ) where
         inside = omega arith;
       }
 
-  pub frame-told : (r : LineRead) (next : ℕ) → line_read text at p line ≡ r → next_of r ≡ some next → FrameRead text at p next r
-  frame-told r next e n = ⊎_elim (λ h. never (cc (read_past text at p line h))) (λ h. there h r next e n) left
+  pub frame_told : (r : LineRead) (next : ℕ) → line_read text at p line ≡ r → next_of r ≡ some next → FrameRead text at p next r
+  frame_told r next e n = ⊎_elim (λ h. never (cc (read_past text at p line h))) (λ h. there h r next e n) left
 
-  refused-there : at < length text → (r : Refusal) → line_read text at p line ≡ Refused r → FaultRead text at p line r
+  refused_there : at < length text → (r : Refusal) → line_read text at p line ≡ Refused r → FaultRead text at p line r
   unfolding judged
-  refused-there h r e =
-      let end = at + line-length (drop at text) in
-      let l = line-from text at end in
+  refused_there h r e =
+      let end = at + line_length (drop at text) in
+      let l = line_from text at end in
       let n = at + length (slice at end text) + 1 in
-      let given = some-told (fault p l) line l (frame l n) n r (frame-next l n) (sym (read_first text at end h refl p line) ∙ e) in
+      let given = some_told (fault p l) line l (frame l n) n r (frame_next l n) (sym (read_first text at end h refl p line) ∙ e) in
       record {
         line = l;
         rest = lines (drop (end + 1) text);
         first = lines_from text at end h refl;
         wrong = given.0;
-        told-there = given.1;
+        told_there = given.1;
       }
 
-  pub refused-told : (r : Refusal) → line_read text at p line ≡ Refused r → FaultRead text at p line r
-  refused-told r e = ⊎_elim (λ h. never (cc (read_past text at p line h))) (λ h. refused-there h r e) left
+  pub refused_told : (r : Refusal) → line_read text at p line ≡ Refused r → FaultRead text at p line r
+  refused_told r e = ⊎_elim (λ h. never (cc (read_past text at p line h))) (λ h. refused_there h r e) left
 
-  nothing-there : at < length text → line_read text at p line ≡ Nothing → ⊥
+  nothing_there : at < length text → line_read text at p line ≡ Nothing → ⊥
   unfolding judged
-  nothing-there h e =
-      let end = at + line-length (drop at text) in
-      let l = line-from text at end in
+  nothing_there h e =
+      let end = at + line_length (drop at text) in
+      let l = line_from text at end in
       let n = at + length (slice at end text) + 1 in
-      nothing-judged (fault p l) line l (frame l n) n (frame-next l n) (sym (read_first text at end h refl p line) ∙ e)
+      nothing_judged (fault p l) line l (frame l n) n (frame_next l n) (sym (read_first text at end h refl p line) ∙ e)
 
-  pub nothing-told : line_read text at p line ≡ Nothing → lines (drop at text) ≡ []
+  pub nothing_told : line_read text at p line ≡ Nothing → lines (drop at text) ≡ []
   unfolding lines
-  nothing-told e = ⊎_elim (λ h. ap lines (drop_of_length-le text {i = at} h)) (λ h. absurd (nothing-there h e)) left
+  nothing_told e = ⊎_elim (λ h. ap lines (drop_of_length-le text {i = at} h)) (λ h. absurd (nothing_there h e)) left
 
 -- What a frame says is what the table reads in its line.
 module _ (l : Line) (n : ℕ) where
   pub header_is : {c : Cells} {h : Ticks} {m : ℕ} → frame l n ≡ Header c h m
-      → (kind l ≡ 0x01) × (c.0 ≡ header-capacity l) × (h.0 ≡ header-hop l)
+      → (kind l ≡ 0x01) × (c.0 ≡ header_capacity l) × (h.0 ≡ header_hop l)
   header_is {c} {h} {m} e = by (typed l n)
     where
-      by : Typed l n (frame l n) → (kind l ≡ 0x01) × (c.0 ≡ header-capacity l) × (h.0 ≡ header-hop l)
+      by : Typed l n (frame l n) → (kind l ≡ 0x01) × (c.0 ≡ header_capacity l) × (h.0 ≡ header_hop l)
       by (header k f) = (k, cc, cc)
       by (gate k f) = never cc
       by (end k j f) = never cc
 
-  pub gate-is : {w : Cells} {d : Ticks} {k : FanInCount} {m : ℕ} → frame l n ≡ Gate w d k m
-      → (kind l ≡ 0x02) × (w.0 ≡ (gate-of l).weight) × (d.0 ≡ (gate-of l).delay) × (k.0 ≡ gate-count l)
-  gate-is {w} {d} {k} {m} e = by (typed l n)
+  pub gate_is : {w : Cells} {d : Ticks} {k : FanInCount} {m : ℕ} → frame l n ≡ Gate w d k m
+      → (kind l ≡ 0x02) × (w.0 ≡ (gate_of l).weight) × (d.0 ≡ (gate_of l).delay) × (k.0 ≡ gate_count l)
+  gate_is {w} {d} {k} {m} e = by (typed l n)
     where
-      by : Typed l n (frame l n) → (kind l ≡ 0x02) × (w.0 ≡ (gate-of l).weight) × (d.0 ≡ (gate-of l).delay) × (k.0 ≡ gate-count l)
+      by : Typed l n (frame l n) → (kind l ≡ 0x02) × (w.0 ≡ (gate_of l).weight) × (d.0 ≡ (gate_of l).delay) × (k.0 ≡ gate_count l)
       by (header t f) = never cc
       by (gate t f) = (t, cc, cc, cc)
       by (end t j f) = never cc

@@ -2,51 +2,51 @@
 use mathlib.Core.Path.{refl}
 use Rattle.units.specs.Outcome.{OneOutcome}
 use Rattle.units.proofs.Unique.{same}
-use Rattle.frames.proofs.Refusal.at_column.Reads as refusal-at-column
-use Rattle.frames.proofs.Refusal.at_line.Reads as refusal-at-line
-use Rattle.frames.proofs.Refusal.at_no_line.Reads as refusal-at-no-line
-use Rattle.frames.proofs.Refusal.no_room.Reads as refusal-no-room
-use Rattle.frames.proofs.read_line.Reads as read-line
-use Rattle.frames.proofs.fan_in.Reads as fan-in
-use Rattle.frames.proofs.put.put_byte.Reads as put-put-byte
-use Rattle.frames.proofs.put.put_word.Reads as put-put-word
-use Rattle.frames.proofs.put.put_long.Reads as put-put-long
-use Rattle.frames.proofs.put.put_words.Reads as put-put-words
-use Rattle.frames.proofs.put.feed.Reads as put-feed
+use Rattle.frames.proofs.Refusal.at_column.Reads as refusal_at_column
+use Rattle.frames.proofs.Refusal.at_line.Reads as refusal_at_line
+use Rattle.frames.proofs.Refusal.at_no_line.Reads as refusal_at_no_line
+use Rattle.frames.proofs.Refusal.no_room.Reads as refusal_no_room
+use Rattle.frames.proofs.read_line.Reads as read_line
+use Rattle.frames.proofs.fan_in.Reads as fan_in
+use Rattle.frames.proofs.put.put_byte.Reads as put_put_byte
+use Rattle.frames.proofs.put.put_word.Reads as put_put_word
+use Rattle.frames.proofs.put.put_long.Reads as put_put_long
+use Rattle.frames.proofs.put.put_words.Reads as put_put_words
+use Rattle.frames.proofs.put.feed.Reads as put_feed
 
 -- Passed by value, or lent by `&`: nothing of the arguments changes, and the result is the whole outcome.
 
-pub refusal-at-column-unique : OneOutcome refusal-at-column.Learnt (λ κs exit. tt {0})
-refusal-at-column-unique κs args r s exit exit' p q = (same p q, refl)
+pub refusal_at_column_unique : OneOutcome refusal_at_column.Learnt (λ κs exit. tt {0})
+refusal_at_column_unique κs args r s exit exit' p q = (same p q, refl)
 
-pub refusal-at-line-unique : OneOutcome refusal-at-line.Learnt (λ κs exit. tt {0})
-refusal-at-line-unique κs args r s exit exit' p q = (same p q, refl)
+pub refusal_at_line_unique : OneOutcome refusal_at_line.Learnt (λ κs exit. tt {0})
+refusal_at_line_unique κs args r s exit exit' p q = (same p q, refl)
 
-pub refusal-at-no-line-unique : OneOutcome refusal-at-no-line.Learnt (λ κs exit. tt {0})
-refusal-at-no-line-unique κs args r s exit exit' p q = (same p q, refl)
+pub refusal_at_no_line_unique : OneOutcome refusal_at_no_line.Learnt (λ κs exit. tt {0})
+refusal_at_no_line_unique κs args r s exit exit' p q = (same p q, refl)
 
-pub refusal-no-room-unique : OneOutcome refusal-no-room.Learnt (λ κs exit. tt {0})
-refusal-no-room-unique κs args r s exit exit' p q = (same p q, refl)
+pub refusal_no_room_unique : OneOutcome refusal_no_room.Learnt (λ κs exit. tt {0})
+refusal_no_room_unique κs args r s exit exit' p q = (same p q, refl)
 
-pub read-line-unique : OneOutcome read-line.Learnt (λ κs exit. tt {0})
-read-line-unique κs args r s exit exit' p q = (same p q, refl)
+pub read_line_unique : OneOutcome read_line.Learnt (λ κs exit. tt {0})
+read_line_unique κs args r s exit exit' p q = (same p q, refl)
 
-pub fan-in-unique : OneOutcome fan-in.Learnt (λ κs exit. tt {0})
-fan-in-unique κs args r s exit exit' p q = (same p q, refl)
+pub fan_in_unique : OneOutcome fan_in.Learnt (λ κs exit. tt {0})
+fan_in_unique κs args r s exit exit' p q = (same p q, refl)
 
 -- The row that is written is the first parameter.
 
-pub put-put-byte-unique : OneOutcome put-put-byte.Learnt (λ κs exit. exit.0.now)
-put-put-byte-unique κs args r s exit exit' p q = (same p.answer q.answer, same p.kept q.kept)
+pub put_put_byte_unique : OneOutcome put_put_byte.Learnt (λ κs exit. exit.0.now)
+put_put_byte_unique κs args r s exit exit' p q = (same p.answer q.answer, same p.kept q.kept)
 
-pub put-put-word-unique : OneOutcome put-put-word.Learnt (λ κs exit. exit.0.now)
-put-put-word-unique κs args r s exit exit' p q = (same p.answer q.answer, same p.kept q.kept)
+pub put_put_word_unique : OneOutcome put_put_word.Learnt (λ κs exit. exit.0.now)
+put_put_word_unique κs args r s exit exit' p q = (same p.answer q.answer, same p.kept q.kept)
 
-pub put-put-long-unique : OneOutcome put-put-long.Learnt (λ κs exit. exit.0.now)
-put-put-long-unique κs args r s exit exit' p q = (same p.answer q.answer, same p.kept q.kept)
+pub put_put_long_unique : OneOutcome put_put_long.Learnt (λ κs exit. exit.0.now)
+put_put_long_unique κs args r s exit exit' p q = (same p.answer q.answer, same p.kept q.kept)
 
-pub put-put-words-unique : OneOutcome put-put-words.Learnt (λ κs exit. exit.0.now)
-put-put-words-unique κs args r s exit exit' p q = (same p.answer q.answer, same p.kept q.kept)
+pub put_put_words_unique : OneOutcome put_put_words.Learnt (λ κs exit. exit.0.now)
+put_put_words_unique κs args r s exit exit' p q = (same p.answer q.answer, same p.kept q.kept)
 
-pub put-feed-unique : OneOutcome put-feed.Learnt (λ κs exit. exit.0.now)
-put-feed-unique κs args r s exit exit' p q = (same p.answer q.answer, same p.kept q.kept)
+pub put_feed_unique : OneOutcome put_feed.Learnt (λ κs exit. exit.0.now)
+put_feed_unique κs args r s exit exit' p q = (same p.answer q.answer, same p.kept q.kept)

@@ -4,7 +4,7 @@ use Rattle.std.specs.Prelude.{ℕ, suc, ◌%◌, ◌<◌, ◌≡◌, ◌↔◌, 
 use mathlib.Core.List.{List, [], ◌∷◌, ◌++◌, Memᴰ}
 use Rattle.frames.specs.declared.Place.{Place}
 use Rattle.frames.specs.Text.{Line, lines, digit}
-use Rattle.frames.specs.Table.{Row, empty, bad-digit, odd, unended, form-rows, frame-rows, table, column}
+use Rattle.frames.specs.Table.{Row, empty, bad_digit, odd, unended, form_rows, frame_rows, table, column}
 
 -- [O3] The row of the number holds, and no row that stands before it in the table.
 pub record GivenBy (rows : List Row) (k : ℕ) (p : Place) (l : Line) : Type 0 where
@@ -39,14 +39,14 @@ Faultless p l = FaultlessBy table p l
 
 -- [O3] Below 21 the number is the lowest of the frame's, and nothing is wrong with the line's form.
 pub record Lowest (k : ℕ) (p : Place) (l : Line) : Type 0 where
-  pub form : FaultlessBy form-rows p l
-  pub frame : LowestBy frame-rows k p l
+  pub form : FaultlessBy form_rows p l
+  pub frame : LowestBy frame_rows k p l
 
 -- [O3] An empty line of a text has no other fault of form: 23 stands alone.
 abbrev pub EmptyAlone : Type 0
 EmptyAlone =
     (text : List ℕ) (p : Place) (l : Line) → Memᴰ l (lines text) → empty p l ≡ true
-    → (bad-digit p l ≡ false) × (odd p l ≡ false) × (unended p l ≡ false)
+    → (bad_digit p l ≡ false) × (odd p l ≡ false) × (unended p l ≡ false)
 
 -- [N21] The first bad digit of a line: a byte that is no digit at that place, counted from 1, and no such byte before it.
 pub record FirstBad (digits : List ℕ) (place : ℕ) : Type 0 where
@@ -67,7 +67,7 @@ pub record FormExactly (p : Place) (l : Line) : Type 0 where
   -- [N23] It is empty.
   pub empty : Given 23 p l ↔ (l.digits ≡ [])
   -- [N21] It has a first bad digit.
-  pub bad-digit : Given 21 p l ↔ ((place : ℕ) × FirstBad l.digits place)
+  pub bad_digit : Given 21 p l ↔ ((place : ℕ) × FirstBad l.digits place)
   -- [N22] It has only digits, and an odd number of them.
   pub odd : Given 22 p l ↔ (DigitsOnly l × (length l.digits % 2 ≡ 1))
   -- [N24] It has digits, only digits and an even number of them, and is not ended.
@@ -75,8 +75,8 @@ pub record FormExactly (p : Place) (l : Line) : Type 0 where
 
 -- [O1] The column told with a number of a line: the first bad digit's with 21, and 0 with all others.
 pub data Column (l : Line) : ℕ → ℕ → Type 0 where
-  of-21 : {place : ℕ} → FirstBad l.digits place → Column l 21 place
-  of-another : {k : ℕ} → (k ≡ 21 → ⊥) → Column l k 0
+  of_21 : {place : ℕ} → FirstBad l.digits place → Column l 21 place
+  of_another : {k : ℕ} → (k ≡ 21 → ⊥) → Column l k 0
 
 -- [N21] The computed column of a line that is given a number is exactly that one.
 abbrev pub ColumnExactly : Type 0

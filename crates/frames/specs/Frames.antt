@@ -5,24 +5,24 @@ use Rattle.units.specs.Units.{cells, ticks}
 use Rattle.frames.specs.declared.Place.{Place}
 use Rattle.frames.specs.declared.LineRead.{LineRead}
 use Rattle.frames.specs.declared.LineRead.TheVariants.{Header, Gate, End, Refused, Nothing}
-use Rattle.frames.specs.Refusal.{at-column}
+use Rattle.frames.specs.Refusal.{at_column}
 use Rattle.frames.specs.Text.{Line, lines, digit}
-use Rattle.frames.specs.Table.{kind, header-capacity, header-hop, gate-of, gate-count, fault, column}
+use Rattle.frames.specs.Table.{kind, header_capacity, header_hop, gate_of, gate_count, fault, column}
 
 -- The frame that a line without fault is, and where the next line begins.
 unfoldable pub frame : Line → ℕ → LineRead
-unfolding kind header-capacity header-hop gate-of gate-count
+unfolding kind header_capacity header_hop gate_of gate_count
 frame l next =
-    cond (eqb (kind l) 0x01) (Header (cells (header-capacity l)) (ticks (header-hop l)) next)
+    cond (eqb (kind l) 0x01) (Header (cells (header_capacity l)) (ticks (header_hop l)) next)
     (cond (eqb (kind l) 0x02)
-    (Gate (cells (gate-of l).weight) (ticks (gate-of l).delay) (record { 0 = gate-count l }) next)
+    (Gate (cells (gate_of l).weight) (ticks (gate_of l).delay) (record { 0 = gate_count l }) next)
     (End next))
 
 -- A fault is told at its line, with its column.
 unfoldable pub told : Option ℕ → ℕ → Line → LineRead → LineRead
 unfolding column
 told none line l r = r
-told (some k) line l r = Refused (at-column k line (column k l))
+told (some k) line l r = Refused (at_column k line (column k l))
 
 -- What a line answers that begins at a place of the text: the next begins behind its line feed.
 unfoldable pub judged : ℕ → Place → ℕ → Line → LineRead
@@ -45,15 +45,15 @@ unfoldable pub digit_at : List ℕ → ℕ → ℕ
 unfolding digit
 digit_at text k = digit (get_or text k 0)
 
-unfoldable pub byte-from : List ℕ → ℕ → ℕ
+unfoldable pub byte_from : List ℕ → ℕ → ℕ
 unfolding digit_at
-byte-from text k = 16 * digit_at text k + digit_at text (k + 1)
+byte_from text k = 16 * digit_at text k + digit_at text (k + 1)
 
-unfoldable pub word-from : List ℕ → ℕ → ℕ
-unfolding byte-from
-word-from text k = 256 * byte-from text k + byte-from text (k + 2)
+unfoldable pub word_from : List ℕ → ℕ → ℕ
+unfolding byte_from
+word_from text k = 256 * byte_from text k + byte_from text (k + 2)
 
 -- [F4] The i-th fan-in of a gate that begins there: six bytes stand before the first, each two digits.
-unfoldable pub fan-in-from : List ℕ → ℕ → ℕ → ℕ
-unfolding word-from
-fan-in-from text at i = word-from text (at + 12 + 4 * i)
+unfoldable pub fan_in_from : List ℕ → ℕ → ℕ → ℕ
+unfolding word_from
+fan_in_from text at i = word_from text (at + 12 + 4 * i)

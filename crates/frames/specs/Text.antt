@@ -2,8 +2,8 @@
 use Rattle.std.specs.Prelude.{ℕ, suc, ◌+◌, ◌*◌, ◌-◌, Bool, true, false, cond, ◌&&◌, List, [], ◌∷◌, get_or, leb, ltb, eqb}
 
 -- the line feed, 0A
-abbrev pub line-feed : ℕ
-line-feed = 10
+abbrev pub line_feed : ℕ
+line_feed = 10
 
 -- [F1] A line: what stands before its line feed. What follows the last line feed, if anything does, is a line that is not ended.
 pub record Line : Type 0 where
@@ -18,7 +18,7 @@ begin b (l ∷ ls) = record { digits = b ∷ l.digits; ended = l.ended } ∷ ls
 unfoldable pub lines : List ℕ → List Line
 unfolding begin
 lines [] = []
-lines (b ∷ bs) = cond (eqb b line-feed) (record { digits = []; ended = true } ∷ lines bs) (begin b (lines bs))
+lines (b ∷ bs) = cond (eqb b line_feed) (record { digits = []; ended = true } ∷ lines bs) (begin b (lines bs))
 
 -- [F1] what a byte counts for as a digit, 16 if it is none
 unfoldable pub digit : ℕ → ℕ
@@ -30,10 +30,10 @@ all_digits [] = true
 all_digits (b ∷ bs) = ltb (digit b) 16 && all_digits bs
 
 -- how many digits stand before the first byte that is none, or in all
-unfoldable pub digits-before : List ℕ → ℕ
+unfoldable pub digits_before : List ℕ → ℕ
 unfolding digit
-digits-before [] = 0
-digits-before (b ∷ bs) = cond (ltb (digit b) 16) (suc (digits-before bs)) 0
+digits_before [] = 0
+digits_before (b ∷ bs) = cond (ltb (digit b) 16) (suc (digits_before bs)) 0
 
 -- [F1] two digits a byte
 unfoldable pub even : List ℕ → Bool
@@ -52,9 +52,9 @@ bytes (a ∷ b ∷ ds) = (16 * digit a + digit b) ∷ bytes ds
 unfoldable pub word_at : List ℕ → ℕ → ℕ
 word_at bs i = 256 * get_or bs i 0 + get_or bs (i + 1) 0
 
-unfoldable pub long-at : List ℕ → ℕ → ℕ
+unfoldable pub long_at : List ℕ → ℕ → ℕ
 unfolding word_at
-long-at bs i = 65_536 * word_at bs i + word_at bs (i + 2)
+long_at bs i = 65_536 * word_at bs i + word_at bs (i + 2)
 
 unfoldable pub words : List ℕ → List ℕ
 words [] = []

@@ -8,11 +8,11 @@
 ghost use Rattle.std.specs.Prelude.{◌≡◌, ◌+◌, ◌^◌, ◌≤◌, ◌<◌, length, drop};
 ghost use Rattle.std.proofs.Math.Option.{none};
 ghost use Rattle.std.proofs.Math.Seq.{slice};
-ghost use Rattle.frames.specs.Text.{digit, digits-before, bytes, words};
-ghost use Rattle.frames.specs.Table.{rising-from};
-ghost use Rattle.frames.specs.Frames.{judged, line_read, digit_at, byte-from, word-from, fan-in-from};
-ghost use Rattle.frames.specs.steps.Cut.{long-from, line-length, line-from, form-found, form-fault};
-ghost use Rattle.frames.specs.Refusal.{at-column, at-line, at-no-line, no_room};
+ghost use Rattle.frames.specs.Text.{digit, digits_before, bytes, words};
+ghost use Rattle.frames.specs.Table.{rising_from};
+ghost use Rattle.frames.specs.Frames.{judged, line_read, digit_at, byte_from, word_from, fan_in_from};
+ghost use Rattle.frames.specs.steps.Cut.{long_from, line_length, line_from, form_found, form_fault};
+ghost use Rattle.frames.specs.Refusal.{at_column, at_line, at_no_line, no_room};
 ghost use Rattle.frames.specs.declared.Place.TheVariants.{Opening, AfterGates};
 ghost use Rattle.frames.specs.declared.LineRead.TheVariants.{Refused};
 
@@ -108,7 +108,7 @@ pub const TOO_SHORT: u8 = 10;
 
 impl Refusal {
     pub fn at_column(number: u8, line: usize, column: usize) -> Refusal
-        ensures { result ≡ at-column number line column }
+        ensures { result ≡ at_column number line column }
     {
         Refusal {
             number,
@@ -119,14 +119,14 @@ impl Refusal {
 
     // Column 0: no place of the line is pointed at.
     pub fn at_line(number: u8, line: usize) -> Refusal
-        ensures { result ≡ at-line number line }
+        ensures { result ≡ at_line number line }
     {
         Refusal::at_column(number, line, 0)
     }
 
     // Line 0: no line of the text is at fault.
     pub fn at_no_line(number: u8) -> Refusal
-        ensures { result ≡ at-no-line number }
+        ensures { result ≡ at_no_line number }
     {
         Refusal::at_line(number, 0)
     }
@@ -168,7 +168,7 @@ fn digit_at(text: &[u8], k: usize) -> u64
 // The byte that two digits spell.
 fn byte_at(text: &[u8], k: usize) -> u64
     requires { k + 2 < 2 ^ 64 }
-    ensures { result ≡ byte-from text.now k }
+    ensures { result ≡ byte_from text.now k }
 {
     16 * digit_at(text, k) + digit_at(text, k + 1)
 }
@@ -176,7 +176,7 @@ fn byte_at(text: &[u8], k: usize) -> u64
 // The number that two bytes spell.
 fn word_at(text: &[u8], k: usize) -> u64
     requires { k + 4 < 2 ^ 64 }
-    ensures { result ≡ word-from text.now k }
+    ensures { result ≡ word_from text.now k }
 {
     256 * byte_at(text, k) + byte_at(text, k + 2)
 }
@@ -184,7 +184,7 @@ fn word_at(text: &[u8], k: usize) -> u64
 // The number that four bytes spell.
 fn long_at(text: &[u8], k: usize) -> u64
     requires { k + 8 < 2 ^ 64 }
-    ensures { result ≡ long-from text.now k }
+    ensures { result ≡ long_from text.now k }
 {
     65_536 * word_at(text, k) + word_at(text, k + 4)
 }
@@ -204,7 +204,7 @@ const NO_FAN_IN: u32 = 69_904;
 
 // The i-th fan-in of the gate line that begins at `at`: the number of its four digits, missing ones counting 16.
 pub fn fan_in(text: &[u8], at: usize, i: usize) -> u32
-    ensures { result ≡ fan-in-from text.now at i }
+    ensures { result ≡ fan_in_from text.now at i }
 {
     let len = text.len();
     if at < len && i < (len - at) / 4 {
@@ -219,7 +219,7 @@ const LINE_FEED: u8 = 10;
 // Where the line ends that begins at `at`: at its line feed, or at the text's end where it has none.
 fn line_end(text: &[u8], at: usize) -> usize
     requires { at ≤ length text.now }
-    ensures { result ≡ at + line-length (drop at text.now) }
+    ensures { result ≡ at + line_length (drop at text.now) }
 {
     let mut i = at;
     while i < text.len() && text[i] != LINE_FEED {
@@ -231,7 +231,7 @@ fn line_end(text: &[u8], at: usize) -> usize
 // The place of the first byte from `at` up to `end` that is no digit; `end` where all are.
 fn first_bad(text: &[u8], at: usize, end: usize) -> usize
     requires { (at ≤ end) × (end ≤ length text.now) }
-    ensures { result ≡ at + digits-before (slice at end text.now) }
+    ensures { result ≡ at + digits_before (slice at end text.now) }
 {
     let mut i = at;
     while i < end && digit(text[i]) != NO_DIGIT {
@@ -251,7 +251,7 @@ enum Form {
 // them, and is ended: 23 where it is empty, and otherwise the first of 21, 22 and 24 that it has.
 fn line_form(text: &[u8], at: usize, end: usize, line: usize) -> Form
     requires { (at ≤ end) × (end ≤ length text.now) }
-    ensures { result ≡ form-found line (line-from text.now at end) }
+    ensures { result ≡ form_found line (line_from text.now at end) }
 {
     if end == at {
         return Form::Wrong(Refusal::at_line(EMPTY_LINE, line));
@@ -273,7 +273,7 @@ fn line_form(text: &[u8], at: usize, end: usize, line: usize) -> Form
 
 // A line's number, told at the line.
 fn refused(number: u8, line: usize) -> LineRead
-    ensures { result ≡ Refused (at-line number line) }
+    ensures { result ≡ Refused (at_line number line) }
 {
     LineRead::Refused(Refusal::at_line(number, line))
 }
@@ -289,8 +289,8 @@ const END_TYPE: u64 = 0x0F;
 
 // A well-formed line that opens the text: 3 by its type, 4 by its length, or a header.
 fn read_header(text: &[u8], at: usize, end: usize, line: usize) -> LineRead
-    requires { form-fault (line-from text.now at end) ≡ none }
-    ensures { result ≡ judged at Opening line (line-from text.now at end) }
+    requires { form_fault (line_from text.now at end) ≡ none }
+    ensures { result ≡ judged at Opening line (line_from text.now at end) }
 {
     if byte_at(text, at) != HEADER_TYPE {
         return refused(MISPLACED, line);
@@ -312,7 +312,7 @@ fn read_header(text: &[u8], at: usize, end: usize, line: usize) -> LineRead
 // Whether the numbers of four digits from `from` up to `end` rise strictly and are all below a gate's own number.
 fn rising(text: &[u8], from: usize, end: usize, gate: GateNumber) -> bool
     requires { (from ≤ end) × (end ≤ length text.now) }
-    ensures { result ≡ rising-from 0 gate.0 (words (bytes (slice from end text.now))) }
+    ensures { result ≡ rising_from 0 gate.0 (words (bytes (slice from end text.now))) }
 {
     let bound = gate.0 as u64;
     let mut least = 0;
@@ -331,8 +331,8 @@ fn rising(text: &[u8], from: usize, end: usize, gate: GateNumber) -> bool
 // A well-formed line of type 02, after a header and so many gates: 4 by its count or length, 5 by its number, 6 by its
 // fan-ins, or a gate.
 fn read_gate(text: &[u8], at: usize, end: usize, gates: usize, line: usize) -> LineRead
-    requires { (form-fault (line-from text.now at end) ≡ none) × (byte-from text.now at ≡ 0x02) }
-    ensures { result ≡ judged at (AfterGates gates) line (line-from text.now at end) }
+    requires { (form_fault (line_from text.now at end) ≡ none) × (byte_from text.now at ≡ 0x02) }
+    ensures { result ≡ judged at (AfterGates gates) line (line_from text.now at end) }
 {
     // The count of fan-ins stands behind type, weight and delay.
     let fan_ins = byte_at(text, at + 10) as usize;
@@ -366,8 +366,8 @@ fn read_gate(text: &[u8], at: usize, end: usize, gates: usize, line: usize) -> L
 // A well-formed line of type 0F, after a header and so many gates: 4 by its length, 7 by its count, 8 where there was no
 // gate, or an end.
 fn read_end(text: &[u8], at: usize, end: usize, gates: usize, line: usize) -> LineRead
-    requires { (form-fault (line-from text.now at end) ≡ none) × (byte-from text.now at ≡ 0x0F) }
-    ensures { result ≡ judged at (AfterGates gates) line (line-from text.now at end) }
+    requires { (form_fault (line_from text.now at end) ≡ none) × (byte_from text.now at ≡ 0x0F) }
+    ensures { result ≡ judged at (AfterGates gates) line (line_from text.now at end) }
 {
     if end - at != END_DIGITS {
         return refused(WRONG_LENGTH, line);
@@ -384,8 +384,8 @@ fn read_end(text: &[u8], at: usize, end: usize, gates: usize, line: usize) -> Li
 
 // A well-formed line after a header and so many gates: a gate or the end.
 fn read_after_header(text: &[u8], at: usize, end: usize, gates: usize, line: usize) -> LineRead
-    requires { form-fault (line-from text.now at end) ≡ none }
-    ensures { result ≡ judged at (AfterGates gates) line (line-from text.now at end) }
+    requires { form_fault (line_from text.now at end) ≡ none }
+    ensures { result ≡ judged at (AfterGates gates) line (line_from text.now at end) }
 {
     let kind = byte_at(text, at);
     if kind == GATE_TYPE {
@@ -399,8 +399,8 @@ fn read_after_header(text: &[u8], at: usize, end: usize, gates: usize, line: usi
 
 // A well-formed line, by what stood before it.
 fn read_formed(text: &[u8], at: usize, end: usize, place: Place, line: usize) -> LineRead
-    requires { form-fault (line-from text.now at end) ≡ none }
-    ensures { result ≡ judged at place line (line-from text.now at end) }
+    requires { form_fault (line_from text.now at end) ≡ none }
+    ensures { result ≡ judged at place line (line_from text.now at end) }
 {
     match place {
         Place::Opening => read_header(text, at, end, line),

@@ -2,7 +2,7 @@
 // were handed or, without room for it, nothing. `feed` ends a line.
 ghost use Rattle.std.specs.Prelude.{◌≡◌, [], ◌∷◌, ◌+◌, ◌<◌, leb};
 ghost use Rattle.model.specs.Basics.{gather};
-ghost use Rattle.frames.specs.Digits.{figure, word_bytes, long-bytes};
+ghost use Rattle.frames.specs.Digits.{figure, word_bytes, long_bytes};
 ghost use Rattle.frames.specs.Put.{Put, Fed};
 
 use crate::{Refusal, Written};
@@ -56,7 +56,7 @@ pub fn put_word(out: &mut [u8], at: usize, w: u16) -> usize
 
 // The eight digits of a long word.
 pub fn put_long(out: &mut [u8], at: usize, w: u32) -> usize
-    ensures { Put (long-bytes w) at out.old result out.new }
+    ensures { Put (long_bytes w) at out.old result out.new }
 {
     if has_room(out.len(), at, 8) {
         let next = put_word(out, at, (w / 65_536) as u16);

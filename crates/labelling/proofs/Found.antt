@@ -11,5 +11,5 @@ pub found_front : {gates before : List ℕ} {count : ℕ} {after : List ℕ} →
 found_front {gates} {before} {count} f =
     ap (take count) f.row_is ∙ take_at gates (drop (length gates) before) count (sym f.many)
 
-pub found-fits : {gates before : List ℕ} {count : ℕ} {after : List ℕ} → Found gates before count after → count ≤ length after
-found-fits {gates} {before} f = omega (arith, f.many, ap length f.row_is, length-append gates (drop (length gates) before))
+pub found_fits : {gates before : List ℕ} {count : ℕ} {after : List ℕ} → Found gates before count after → count ≤ length after
+found_fits {gates} {before} f = omega (arith, f.many, ap length f.row_is, length-append gates (drop (length gates) before))

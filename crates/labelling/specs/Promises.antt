@@ -1,12 +1,12 @@
 -- What the public functions promise.
 use Rattle.std.specs.Prelude.{ℕ, ◌≡◌, Bool, cond, ◌||◌, List, ◌++◌, length, drop, ltb}
 use Rattle.model.specs.Network.{size}
-use Rattle.model.specs.Label.{labels as labels-of}
-use Rattle.model.specs.Drawing.{members as members-of}
+use Rattle.model.specs.Label.{labels as labels_of}
+use Rattle.model.specs.Drawing.{members as members_of}
 use Rattle.frames.specs.Refusal.{no_room}
 use Rattle.texts.specs.Reading.{Reading, refused, network}
 use Rattle.rows.specs.declared.Header.{Header}
-use Rattle.rows.specs.Spelling.{row-answer}
+use Rattle.rows.specs.Spelling.{row_answer}
 use Rattle.labelling.specs.declared.Labelled.{Labelled}
 use Rattle.labelling.specs.declared.Labelled.TheVariants as Labelled
 use Rattle.labelling.specs.declared.Clustered.{Clustered}
@@ -18,38 +18,38 @@ written xs row = xs ++ drop (length xs) row
 
 -- [R2] [O5] Labels need one place a gate: a refusal of the text that the row spells is handed on, and a lent row too short for the
 -- network answers 10 behind it.
-unfoldable pub label-answer : Reading → List ℕ → Labelled
-label-answer (refused f) labels = Labelled.Refused f
-label-answer (network n) labels = cond (ltb (length labels) (size n)) (Labelled.Refused no_room) Labelled.Done
+unfoldable pub label_answer : Reading → List ℕ → Labelled
+label_answer (refused f) labels = Labelled.Refused f
+label_answer (network n) labels = cond (ltb (length labels) (size n)) (Labelled.Refused no_room) Labelled.Done
 
 -- [R3] [R4] The labels of the network at the front of the lent row, the rest kept; on a refusal all of it.
-unfoldable pub label-row : Reading → List ℕ → List ℕ
-label-row (refused f) labels = labels
-label-row (network n) labels = cond (ltb (length labels) (size n)) labels (written (labels-of n) labels)
+unfoldable pub label_row : Reading → List ℕ → List ℕ
+label_row (refused f) labels = labels
+label_row (network n) labels = cond (ltb (length labels) (size n)) labels (written (labels_of n) labels)
 
 pub record LabelledInto (h : Header) (row labels : List ℕ) (r : Labelled) (after : List ℕ) : Type 0 where
-  pub answer : r ≡ label-answer (row-answer h row) labels
-  pub kept : after ≡ label-row (row-answer h row) labels
+  pub answer : r ≡ label_answer (row_answer h row) labels
+  pub kept : after ≡ label_row (row_answer h row) labels
 
 -- does one of two lent rows have fewer places than there are gates
-abbrev pub either-short : ℕ → List ℕ → List ℕ → Bool
-either-short gates labels members = ltb (length labels) gates || ltb (length members) gates
+abbrev pub either_short : ℕ → List ℕ → List ℕ → Bool
+either_short gates labels members = ltb (length labels) gates || ltb (length members) gates
 
 -- [R2] The members of the cluster of a root, rising, for any row of labels, one place a gate in each row: how many, and they stand
 -- at the front of the lent row, the rest kept. A root that is no gate has none.
-unfoldable pub cluster-answer : Reading → List ℕ → ℕ → List ℕ → Clustered
-cluster-answer (refused f) labels root members = Clustered.Refused f
-cluster-answer (network n) labels root members =
-    cond (either-short (size n) labels members) (Clustered.Refused no_room) (Clustered.Members (length (members-of n labels root)))
+unfoldable pub cluster_answer : Reading → List ℕ → ℕ → List ℕ → Clustered
+cluster_answer (refused f) labels root members = Clustered.Refused f
+cluster_answer (network n) labels root members =
+    cond (either_short (size n) labels members) (Clustered.Refused no_room) (Clustered.Members (length (members_of n labels root)))
 
-unfoldable pub cluster-row : Reading → List ℕ → ℕ → List ℕ → List ℕ
-cluster-row (refused f) labels root members = members
-cluster-row (network n) labels root members =
-    cond (either-short (size n) labels members) members (written (members-of n labels root) members)
+unfoldable pub cluster_row : Reading → List ℕ → ℕ → List ℕ → List ℕ
+cluster_row (refused f) labels root members = members
+cluster_row (network n) labels root members =
+    cond (either_short (size n) labels members) members (written (members_of n labels root) members)
 
 pub record ClusteredInto (h : Header) (row labels : List ℕ) (root : ℕ) (members : List ℕ) (r : Clustered) (after : List ℕ) : Type 0 where
-  pub answer : r ≡ cluster-answer (row-answer h row) labels root members
-  pub kept : after ≡ cluster-row (row-answer h row) labels root members
+  pub answer : r ≡ cluster_answer (row_answer h row) labels root members
+  pub kept : after ≡ cluster_row (row_answer h row) labels root members
 
 -- Some gates found, in front of a row, the rest of the row as it was.
 pub record Found (gates before : List ℕ) (count : ℕ) (after : List ℕ) : Type 0 where

@@ -1,13 +1,13 @@
 // Growth of a cluster: the gates of the cone join by pull, up to the first one that would overfill it.
 ghost use Rattle.std.specs.Prelude.{◌≡◌, ◌≤◌, ◌<◌, length, take, drop};
 ghost use mathlib.Core.List.{head?};
-ghost use Rattle.model.specs.Ceilings.{most-gates};
+ghost use Rattle.model.specs.Ceilings.{most_gates};
 ghost use Rattle.model.specs.Network.{weight};
 ghost use Rattle.model.specs.Label.{grow};
-ghost use Rattle.rows.specs.Row.{network-in};
+ghost use Rattle.rows.specs.Row.{network_in};
 ghost use Rattle.rows.specs.steps.Holds.{Holds};
 ghost use Rattle.labelling.specs.steps.Standing.{Whole, Below};
-ghost use Rattle.labelling.specs.steps.Growing.{stop-of, or-input, input-pulls, GrowsBelow, Grew};
+ghost use Rattle.labelling.specs.steps.Growing.{stop_of, or_input, input_pulls, GrowsBelow, Grew};
 
 use crate::order::in_order;
 use crate::own::{Order, Row};
@@ -32,8 +32,8 @@ pub(crate) struct Grown {
 
 // The larger of a time and the pull of u, if u is a primary input.
 fn or_input(row: &[u16], pulls: &Row, time: Ticks, u: usize) -> Ticks
-    requires { u < most-gates }
-    ensures { result.0 ≡ or-input row.now pulls.now time.0 u }
+    requires { u < most_gates }
+    ensures { result.0 ≡ or_input row.now pulls.now time.0 u }
 {
     if rows::is_input(row, u) {
         time.larger(Ticks(pulls[u]))
@@ -46,10 +46,10 @@ fn or_input(row: &[u16], pulls: &Row, time: Ticks, u: usize) -> Ticks
 fn walk(header: Header, row: &[u16], v: usize, pulls: &Row, ordered: &Order, count: usize) -> Grown
     requires holds { Holds header row.now × (v < header.gates) }
     requires whole { Whole ordered.now × (count ≤ v) × Below v (take count ordered.now) }
-    ensures joined_le_count { (result.joined ≤ count) × (stop-of result.stop ≡ head? (drop result.joined (take count ordered.now))) }
-    ensures ordered_value { grow (network-in header row.now) (weight (network-in header row.now) v) (take count ordered.now)
-        ≡ record { joined = take result.joined (take count ordered.now); stop = stop-of result.stop } }
-    ensures inputs_value { result.inputs.0 ≡ input-pulls row.now pulls.now (take result.joined (take count ordered.now)) }
+    ensures joined_le_count { (result.joined ≤ count) × (stop_of result.stop ≡ head? (drop result.joined (take count ordered.now))) }
+    ensures ordered_value { grow (network_in header row.now) (weight (network_in header row.now) v) (take count ordered.now)
+        ≡ record { joined = take result.joined (take count ordered.now); stop = stop_of result.stop } }
+    ensures inputs_value { result.inputs.0 ≡ input_pulls row.now pulls.now (take result.joined (take count ordered.now)) }
 {
     let mut sum = rows::weight(row, v);
     let mut inputs = Ticks(0);
@@ -86,7 +86,7 @@ pub(crate) fn grow(
     requires holds { Holds header row.now × (v < header.gates) × (v ≤ length labels.now) }
     requires whole { Whole onward.old × Whole pulls.old × Whole ordered.old }
     ensures grows_below { GrowsBelow v onward.new pulls.new ordered.new result }
-    ensures grew { Grew (network-in header row.now) labels.now v pulls.new ordered.new result }
+    ensures grew { Grew (network_in header row.now) labels.now v pulls.new ordered.new result }
 {
     let count = in_order(header, row, labels, v, onward, pulls, ordered);
     walk(header, row, v, pulls, ordered, count)

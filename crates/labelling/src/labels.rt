@@ -1,13 +1,13 @@
 // Labels: of one gate from the labels below it, and of all gates.
 ghost use Rattle.std.specs.Prelude.{◌≡◌, ◌++◌, ℕ, ◌≤◌, ◌<◌, length, drop};
 ghost use Rattle.std.proofs.Math.Option.{some};
-ghost use Rattle.model.specs.Ceilings.{most-gates};
-ghost use Rattle.model.specs.Label.{label-from, labels as labels-of};
-ghost use Rattle.units.specs.Units.{held-sum};
-ghost use Rattle.rows.specs.Row.{network-in};
+ghost use Rattle.model.specs.Ceilings.{most_gates};
+ghost use Rattle.model.specs.Label.{label_from, labels as labels_of};
+ghost use Rattle.units.specs.Units.{held_sum};
+ghost use Rattle.rows.specs.Row.{network_in};
 ghost use Rattle.rows.specs.steps.Holds.{Holds};
-ghost use Rattle.labelling.specs.steps.Standing.{Whole, pull-in};
-ghost use Rattle.labelling.specs.steps.Growing.{stop-of, stop-pull};
+ghost use Rattle.labelling.specs.steps.Standing.{Whole, pull_in};
+ghost use Rattle.labelling.specs.steps.Growing.{stop_of, stop_pull};
 
 use crate::growth::{Stop, grow};
 use crate::own::{Order, Row};
@@ -16,16 +16,16 @@ use units::{GateNumber, Ticks};
 
 // The pull of a gate that stays outside, plus D: an input's crossing costs its hop like any other.
 fn outside_pull(hop: Ticks, pulls: &Row, u: usize) -> Ticks
-    requires { u < most-gates }
-    ensures { result.0 ≡ held-sum (pull-in pulls.now u) hop.0 }
+    requires { u < most_gates }
+    ensures { result.0 ≡ held_sum (pull_in pulls.now u) hop.0 }
 {
     Ticks(pulls[u]).plus(hop)
 }
 
 // What the gate that stopped growth counts for: its pull and D, 0 if none did [L5].
 fn stop_pull(hop: Ticks, pulls: &Row, stop: Stop) -> Ticks
-    requires { (s : ℕ) → stop-of stop ≡ some s → s < most-gates }
-    ensures { result.0 ≡ stop-pull hop.0 pulls.now (stop-of stop) }
+    requires { (s : ℕ) → stop_of stop ≡ some s → s < most_gates }
+    ensures { result.0 ≡ stop_pull hop.0 pulls.now (stop_of stop) }
 {
     match stop {
         Stop::At(u) => outside_pull(hop, pulls, u),
@@ -46,7 +46,7 @@ fn label_one(
     requires holds { Holds header row.now × (v < header.gates) × (v ≤ length labels.now) }
     requires whole { Whole onward.old × Whole pulls.old × Whole ordered.old }
     ensures whole_2 { Whole onward.new × Whole pulls.new × Whole ordered.new }
-    ensures result_value { result.0 ≡ label-from (network-in header row.now) labels.now v }
+    ensures result_value { result.0 ≡ label_from (network_in header row.now) labels.now v }
 {
     if rows::is_input(row, v) {
         return rows::delay(row, v);
@@ -61,7 +61,7 @@ fn label_one(
 // The label of every gate, in the order of the gates.
 pub(crate) fn label_all(header: Header, row: &[u16], labels: &mut [u32])
     requires { Holds header row.now × (header.gates ≤ length labels.old) }
-    ensures { labels.new ≡ labels-of (network-in header row.now) ++ drop header.gates labels.old }
+    ensures { labels.new ≡ labels_of (network_in header row.now) ++ drop header.gates labels.old }
 {
     let gates = header.gates;
     let mut onward = [0; GateNumber::MOST_GATES];

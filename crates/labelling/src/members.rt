@@ -1,13 +1,13 @@
 // The members of one root's cluster, from a row of labels: the same growth as for its label.
 ghost use Rattle.std.specs.Prelude.{◌≡◌, cond, ◌+◌, ◌≤◌, ◌<◌, length, set, take};
-ghost use Rattle.model.specs.Ceilings.{most-gates};
+ghost use Rattle.model.specs.Ceilings.{most_gates};
 ghost use Rattle.model.specs.Label.{cluster};
-ghost use Rattle.model.specs.Drawing.{mark, members as members-of};
-ghost use Rattle.rows.specs.Row.{network-in};
+ghost use Rattle.model.specs.Drawing.{mark, members as members_of};
+ghost use Rattle.rows.specs.Row.{network_in};
 ghost use Rattle.rows.specs.steps.Holds.{Holds};
 ghost use Rattle.labelling.specs.Promises.{written};
 ghost use Rattle.labelling.specs.steps.Standing.{Whole, Below};
-ghost use Rattle.labelling.specs.steps.Members.{marked, marked-below};
+ghost use Rattle.labelling.specs.steps.Members.{marked, marked_below};
 
 use crate::growth::grow;
 use crate::own::{Marks, Order};
@@ -16,7 +16,7 @@ use units::GateNumber;
 
 // A mark for each gate that joined.
 fn mark(inside: &mut Marks, ordered: &Order, joined: usize)
-    requires { Whole ordered.now × (joined ≤ most-gates) × Below most-gates (take joined ordered.now) }
+    requires { Whole ordered.now × (joined ≤ most_gates) × Below most_gates (take joined ordered.now) }
     ensures { inside.new ≡ mark inside.old (take joined ordered.now) }
 {
     for i in 0..joined {
@@ -27,7 +27,7 @@ fn mark(inside: &mut Marks, ordered: &Order, joined: usize)
 // A mark for each gate in the cluster of r. An input is alone in its cluster [L1].
 fn mark_cluster(header: Header, row: &[u16], labels: &[u32], r: usize, inside: &mut Marks)
     requires { Holds header row.now × (r < header.gates) × (r ≤ length labels.now) }
-    ensures { inside.new ≡ mark inside.old (cluster (network-in header row.now) labels.now r) }
+    ensures { inside.new ≡ mark inside.old (cluster (network_in header row.now) labels.now r) }
 {
     inside[r] = 1;
     if rows::is_input(row, r) {
@@ -51,7 +51,7 @@ fn mark_cluster(header: Header, row: &[u16], labels: &[u32], r: usize, inside: &
 
 // The gate x put behind the first `count` members, if it has a mark. How many there are then.
 fn collect_one(inside: &Marks, x: usize, members: &mut [u16], count: usize) -> usize
-    requires { (x < most-gates) × (count < length members.old) }
+    requires { (x < most_gates) × (count < length members.old) }
     ensures { (result ≡ cond (marked inside.now x) (count + 1) count)
         × (members.new ≡ cond (marked inside.now x) (set members.old count x) members.old) }
 {
@@ -64,9 +64,9 @@ fn collect_one(inside: &Marks, x: usize, members: &mut [u16], count: usize) -> u
 
 // The gates below k that have a mark, rising. How many.
 fn collect(inside: &Marks, k: usize, members: &mut [u16]) -> usize
-    requires { (k ≤ most-gates) × (k ≤ length members.old) }
-    ensures { (result ≡ length (marked-below inside.now k))
-        × (members.new ≡ written (marked-below inside.now k) members.old) }
+    requires { (k ≤ most_gates) × (k ≤ length members.old) }
+    ensures { (result ≡ length (marked_below inside.now k))
+        × (members.new ≡ written (marked_below inside.now k) members.old) }
 {
     let mut count = 0;
     for x in 0..k {
@@ -84,8 +84,8 @@ pub(crate) fn cluster_of(
     members: &mut [u16],
 ) -> usize
     requires { Holds header row.now × (r < header.gates) × (r ≤ length labels.now) × (r < length members.old) }
-    ensures { (result ≡ length (members-of (network-in header row.now) labels.now r))
-        × (members.new ≡ written (members-of (network-in header row.now) labels.now r) members.old) }
+    ensures { (result ≡ length (members_of (network_in header row.now) labels.now r))
+        × (members.new ≡ written (members_of (network_in header row.now) labels.now r) members.old) }
 {
     let mut inside = [0; GateNumber::MOST_GATES];
     mark_cluster(header, row, labels, r, &mut inside);

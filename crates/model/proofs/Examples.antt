@@ -4,37 +4,37 @@ use mathlib.Core.Path.{◌≡◌, refl}
 use mathlib.Core.List.{List, [], ◌∷◌, map}
 use Rattle.model.specs.Network.{Gate, Network}
 use Rattle.model.specs.Label.{labels, label, ordered, pull}
-use Rattle.model.specs.Drawing.{drawn, members, output-delay}
+use Rattle.model.specs.Drawing.{drawn, members, output_delay}
 
-unfoldable pub gate-with : ℕ → ℕ → List ℕ → Gate
-gate-with w d fs = record { weight = w; delay = d; fanins = fs }
+unfoldable pub gate_with : ℕ → ℕ → List ℕ → Gate
+gate_with w d fs = record { weight = w; delay = d; fanins = fs }
 
 -- network A with its capacity and hop delay left open
 unfoldable pub A : ℕ → ℕ → Network
-unfolding gate-with
+unfolding gate_with
 A capacity hop =
     record {
       capacity = capacity;
       hop = hop;
       gates =
-          gate-with 1 1 []
-          ∷ gate-with 1 2 []
-          ∷ gate-with 1 3 (0 ∷ 1 ∷ [])
-          ∷ gate-with 1 1 (1 ∷ [])
-          ∷ gate-with 1 2 (2 ∷ 3 ∷ [])
+          gate_with 1 1 []
+          ∷ gate_with 1 2 []
+          ∷ gate_with 1 3 (0 ∷ 1 ∷ [])
+          ∷ gate_with 1 1 (1 ∷ [])
+          ∷ gate_with 1 2 (2 ∷ 3 ∷ [])
           ∷ [];
     }
 
 -- [P8] a gate alone, and 0 for whatever a number stands for
 unfoldable pub lone : Network
-unfolding gate-with
-lone = record { capacity = 0; hop = 0; gates = gate-with 0 0 [] ∷ [] }
+unfolding gate_with
+lone = record { capacity = 0; hop = 0; gates = gate_with 0 0 [] ∷ [] }
 
 -- [P9] each gate reads the one before it
 unfoldable pub chain : Network
-unfolding gate-with
+unfolding gate_with
 chain =
-    record { capacity = 2; hop = 1; gates = gate-with 1 0 [] ∷ gate-with 1 0 (0 ∷ []) ∷ gate-with 1 0 (1 ∷ []) ∷ [] }
+    record { capacity = 2; hop = 1; gates = gate_with 1 0 [] ∷ gate_with 1 0 (0 ∷ []) ∷ gate_with 1 0 (1 ∷ []) ∷ [] }
 
 -- what a network answers: the output delay, the labels, the drawn roots and the members of each
 pub record Outcome : Type 0 where
@@ -44,10 +44,10 @@ pub record Outcome : Type 0 where
   pub inside : List (List ℕ)
 
 unfoldable pub outcome : Network → Outcome
-unfolding output-delay labels drawn members
+unfolding output_delay labels drawn members
 outcome n =
     record {
-      delay = output-delay n;
+      delay = output_delay n;
       each_label = labels n;
       roots = drawn n (labels n);
       inside = map (members n (labels n)) (drawn n (labels n));

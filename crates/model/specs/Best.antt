@@ -5,7 +5,7 @@ use Rattle.model.specs.Basics.{◌∈◌}
 use Rattle.model.specs.Network.{Network, Heavy}
 use Rattle.model.specs.Label.{labels, label}
 use Rattle.model.specs.Clustering.{Clustering, Legal, Delay, ClusteringDelay}
-use Rattle.model.specs.Drawing.{drawn, name, drawing, output-delay}
+use Rattle.model.specs.Drawing.{drawn, name, drawing, output_delay}
 
 -- some gate is heavier than M
 abbrev pub SomeHeavy : Network → Type 0
@@ -17,13 +17,13 @@ pub record Best (n : Network) : Type 0 where
   -- [T3] It is exact: the root of each drawn cluster has its label as delay.
   pub exact : (SomeHeavy n → ⊥) → (r : ℕ) → r ∈ drawn n (labels n) → Delay n (drawing n) (name n r r) (label n r)
   -- [T3] It is unbeaten: in no legal clustering, however many copies it has, has a copy a smaller delay than its gate's label.
-  pub unbeaten : (k : Clustering) → Legal n k → (c d : ℕ) → c ∈ k.copies → Delay n k c d → label n (k.gate-of c) ≤ d
+  pub unbeaten : (k : Clustering) → Legal n k → (c d : ℕ) → c ∈ k.copies → Delay n k c d → label n (k.gate_of c) ≤ d
   -- [T3] A gate is heavier than M exactly when no legal clustering exists.
   pub heavy : SomeHeavy n ↔ ((k : Clustering) → Legal n k → ⊥)
 
 -- What the customer is told: the output delay is the least delay of any legal clustering.
 pub record LeastDelay (n : Network) : Type 0 where
   -- [C6] It is the delay of the drawn clustering.
-  pub reached : (SomeHeavy n → ⊥) → ClusteringDelay n (drawing n) (output-delay n)
+  pub reached : (SomeHeavy n → ⊥) → ClusteringDelay n (drawing n) (output_delay n)
   -- No legal clustering has a smaller one.
-  pub unbeaten : (k : Clustering) → Legal n k → (d : ℕ) → ClusteringDelay n k d → output-delay n ≤ d
+  pub unbeaten : (k : Clustering) → Legal n k → (d : ℕ) → ClusteringDelay n k d → output_delay n ≤ d

@@ -1,7 +1,7 @@
 -- Selection and wiring: inputs of a cluster, the drawn set, the drawn clustering, the output delay.
 use Rattle.std.specs.Prelude.{ℕ, zero, suc, ◌+◌, ◌*◌, ◌/◌, ◌%◌, ◌≡◌, cond, not, List, [], ◌∷◌, map, get_or, set, replicate, ltb}
 use Rattle.model.specs.Basics.{◌∈◌, Largest, largest, member, keep, gather, upto}
-use Rattle.model.specs.Network.{Network, size, fanins, outputs, gate-at}
+use Rattle.model.specs.Network.{Network, size, fanins, outputs, gate_at}
 use Rattle.model.specs.Label.{labels, label, cluster}
 use Rattle.model.specs.Clustering.{Clustering}
 
@@ -18,8 +18,8 @@ inputs n labels r = keep (λ x. not (member x (cluster n labels r))) (gather (fa
 
 -- [S1] [S2] What a set of roots has to hold: every output, and with a root every input of its cluster.
 pub record Draws (n : Network) (labels : List ℕ) (roots : ℕ → Type 0) : Type 0 where
-  pub every-output : (v : ℕ) → v ∈ outputs n → roots v
-  pub every-input : (r x : ℕ) → roots r → InputOf n labels r x → roots x
+  pub every_output : (v : ℕ) → v ∈ outputs n → roots v
+  pub every_input : (r x : ℕ) → roots r → InputOf n labels r x → roots x
 
 -- [S3] The least such set: whatever else is one has all of its roots.
 pub record Drawn (n : Network) (labels : List ℕ) (roots : List ℕ) : Type 1 where
@@ -33,11 +33,11 @@ mark row [] = row
 mark row (x ∷ xs) = mark (set row x 1) xs
 
 unfoldable pub select : Network → List ℕ → ℕ → List ℕ → List ℕ
-unfolding mark inputs gate-at
+unfolding mark inputs gate_at
 select n labels zero row = row
 select n labels (suc p) row =
     select n labels p
-    (cond (ltb 0 (get_or row (gate-at n p) 0)) (mark row (inputs n labels (gate-at n p))) row)
+    (cond (ltb 0 (get_or row (gate_at n p) 0)) (mark row (inputs n labels (gate_at n p))) row)
 
 unfoldable pub marks : Network → List ℕ → List ℕ
 unfolding select size mark outputs
@@ -63,25 +63,25 @@ unfoldable pub feeds : Network → ℕ → ℕ → ℕ
 unfolding name cluster labels member
 feeds n r x = cond (member x (cluster n (labels n) r)) (name n r x) (name n x x)
 
-unfoldable pub clustering-of : Network → List ℕ → Clustering
+unfoldable pub clustering_of : Network → List ℕ → Clustering
 unfolding gather name cluster labels size feeds
-clustering-of n roots =
+clustering_of n roots =
     record {
       copies = gather (λ r. map (name n r) (cluster n (labels n) r)) roots;
-      gate-of = λ c. c % size n;
-      cluster-of = λ c. c / size n;
+      gate_of = λ c. c % size n;
+      cluster_of = λ c. c / size n;
       feeder = λ c x. feeds n (c / size n) x;
     }
 
 -- the drawn clustering
 unfoldable pub drawing : Network → Clustering
-unfolding clustering-of drawn labels
-drawing n = clustering-of n (drawn n (labels n))
+unfolding clustering_of drawn labels
+drawing n = clustering_of n (drawn n (labels n))
 
 -- [S5] the largest label of a primary output
 abbrev pub OutputDelay : Network → ℕ → Type 0
 OutputDelay n = Largest (λ d. (v : ℕ) × (v ∈ outputs n) × (d ≡ label n v))
 
-unfoldable pub output-delay : Network → ℕ
+unfoldable pub output_delay : Network → ℕ
 unfolding largest label outputs
-output-delay n = largest (map (label n) (outputs n))
+output_delay n = largest (map (label n) (outputs n))

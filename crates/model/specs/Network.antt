@@ -1,7 +1,7 @@
 -- Gates, networks, primary inputs and outputs, positions.
 use Rattle.std.specs.Prelude.{ℕ, ◌≤◌, ◌<◌, ◌≡◌, Bool, true, false, List, [], ◌∷◌, length, get_or}
 use Rattle.model.specs.Basics.{◌∈◌, member, keep, upto}
-use Rattle.model.specs.Ceilings.{most-gates, most-fanins, most-weight, most-delay, most-hop, most-capacity}
+use Rattle.model.specs.Ceilings.{most_gates, most_fanins, most_weight, most_delay, most_hop, most_capacity}
 
 -- [W1] one gate; its fan-ins are gate numbers
 pub record Gate : Type 0 where
@@ -65,23 +65,23 @@ unfoldable pub position : Network → ℕ → ℕ
 position n v = v
 
 -- The gate at a position.
-unfoldable pub gate-at : Network → ℕ → ℕ
-gate-at n p = p
+unfoldable pub gate_at : Network → ℕ → ℕ
+gate_at n p = p
 
 -- [B1] [W7] There is a gate, and every fan-in is a gate that stands before its reader.
 pub record WellFormed (n : Network) : Type 0 where
-  pub some-gate : 0 < size n
+  pub some_gate : 0 < size n
   pub known : (v x : ℕ) → x ∈ fanins n v → x < size n
   pub below : (v x : ℕ) → x ∈ fanins n v → position n x < position n v
 
 -- [B1] [B2] [B3] [B4] nothing is above its ceiling
 pub record WithinCeilings (n : Network) : Type 0 where
-  pub gates : size n ≤ most-gates
-  pub fan-ins : (v : ℕ) → length (fanins n v) ≤ most-fanins
-  pub weights : (v : ℕ) → weight n v ≤ most-weight
-  pub delays : (v : ℕ) → delay n v ≤ most-delay
-  pub hop : n.hop ≤ most-hop
-  pub capacity : n.capacity ≤ most-capacity
+  pub gates : size n ≤ most_gates
+  pub fan_ins : (v : ℕ) → length (fanins n v) ≤ most_fanins
+  pub weights : (v : ℕ) → weight n v ≤ most_weight
+  pub delays : (v : ℕ) → delay n v ≤ most_delay
+  pub hop : n.hop ≤ most_hop
+  pub capacity : n.capacity ≤ most_capacity
 
 -- [N9] a gate that no chip holds
 pub record Heavy (n : Network) (v : ℕ) : Type 0 where

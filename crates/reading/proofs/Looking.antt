@@ -10,57 +10,57 @@ use native.Mathlib.Decide.{dec_le}
 use lib.ListN.{length, drop, length-append}
 use lib.Dec.{ltb, leb, eqb}
 use borrow.Author.Tests.{le-leb, lt-leb, lt-ltb, le-ltb, ne_eqb}
-use Rattle.model.specs.Ceilings.{most-gates}
+use Rattle.model.specs.Ceilings.{most_gates}
 use Rattle.model.specs.Network.{Gate, Network, size}
 use Rattle.units.specs.declared.Cells.{Cells}
 use Rattle.units.specs.declared.Ticks.{Ticks}
 use Rattle.units.specs.declared.FanInCount.{FanInCount}
-use Rattle.frames.specs.Refusal.{at-line}
+use Rattle.frames.specs.Refusal.{at_line}
 use Rattle.frames.specs.Text.{lines}
 use Rattle.frames.specs.declared.Place.TheVariants.{AfterGates}
 use Rattle.frames.specs.declared.LineRead.{LineRead}
-use Rattle.texts.specs.Reading.{Reading, network, walk, first-heavy, told-heavy, weigh}
+use Rattle.texts.specs.Reading.{Reading, network, walk, first_heavy, told_heavy, weigh}
 use Rattle.frames.proofs.Tests.{never, picked}
 use Rattle.rows.specs.declared.Read.TheVariants as Read
 use Rattle.rows.specs.Read.{shown}
 use Rattle.reading.specs.declared.Seen.{Seen}
-use Rattle.reading.specs.steps.Passes.{refusal-of, line-or-0, Known, header-only, heavy-with, one_more}
-use Rattle.reading.proofs.LinesRead.{with-one, weigh-refusal, GateRead}
+use Rattle.reading.specs.steps.Passes.{refusal_of, line_or_0, Known, header_only, heavy_with, one_more}
+use Rattle.reading.proofs.LinesRead.{with_one, weigh_refusal, GateRead}
 
 -- the line of the first heavy gate, with a gate more at the end
 
 -- what stands there once a gate of this weight is looked at
-abbrev next-heavy : ℕ → ℕ → ℕ → ℕ → ℕ
-next-heavy heavy weight capacity line = cond (eqb heavy 0 && not (leb weight capacity)) line heavy
+abbrev next_heavy : ℕ → ℕ → ℕ → ℕ → ℕ
+next_heavy heavy weight capacity line = cond (eqb heavy 0 && not (leb weight capacity)) line heavy
 
-heavy-more : (capacity at : ℕ) (gs : List Gate) (g : Gate) → 0 < at
-    → line-or-0 (first-heavy capacity at (gs ++ (g ∷ [])))
-    ≡ next-heavy (line-or-0 (first-heavy capacity at gs)) g.weight capacity (at + length gs)
-unfolding line-or-0 first-heavy
-heavy-more capacity at [] g pos = go (dec_le g.weight capacity)
+heavy_more : (capacity at : ℕ) (gs : List Gate) (g : Gate) → 0 < at
+    → line_or_0 (first_heavy capacity at (gs ++ (g ∷ [])))
+    ≡ next_heavy (line_or_0 (first_heavy capacity at gs)) g.weight capacity (at + length gs)
+unfolding line_or_0 first_heavy
+heavy_more capacity at [] g pos = go (dec_le g.weight capacity)
   where
-    go : Dec (g.weight ≤ capacity) → line-or-0 (first-heavy capacity at (g ∷ [])) ≡ next-heavy 0 g.weight capacity (at + 0)
+    go : Dec (g.weight ≤ capacity) → line_or_0 (first_heavy capacity at (g ∷ [])) ≡ next_heavy 0 g.weight capacity (at + 0)
     go (yes h) = rw (le-ltb capacity g.weight h, le-leb g.weight capacity h)
     go (no h) =
         rw (lt-ltb capacity g.weight (omega arith), lt-leb g.weight capacity (omega arith)) (omega arith)
-heavy-more capacity at (h ∷ hs) g pos =
-    go (dec_le h.weight capacity) (heavy-more capacity (suc at) hs g (omega arith))
+heavy_more capacity at (h ∷ hs) g pos =
+    go (dec_le h.weight capacity) (heavy_more capacity (suc at) hs g (omega arith))
   where
-    go : Dec (h.weight ≤ capacity) → line-or-0 (first-heavy capacity (suc at) (hs ++ (g ∷ []))) ≡ next-heavy (line-or-0 (first-heavy capacity (suc at) hs)) g.weight capacity (suc at + length hs)
-        → line-or-0 (first-heavy capacity at (h ∷ hs ++ (g ∷ []))) ≡ next-heavy (line-or-0 (first-heavy capacity at (h ∷ hs))) g.weight capacity (at + suc (length hs))
+    go : Dec (h.weight ≤ capacity) → line_or_0 (first_heavy capacity (suc at) (hs ++ (g ∷ []))) ≡ next_heavy (line_or_0 (first_heavy capacity (suc at) hs)) g.weight capacity (suc at + length hs)
+        → line_or_0 (first_heavy capacity at (h ∷ hs ++ (g ∷ []))) ≡ next_heavy (line_or_0 (first_heavy capacity at (h ∷ hs))) g.weight capacity (at + suc (length hs))
     go (yes le) rest =
         let c : at + suc (length hs) ≡ suc at + length hs = omega arith in
         rw (le-ltb capacity h.weight le, c) rest
     go (no gt) rest = rw (lt-ltb capacity h.weight (omega arith), ne_eqb at 0 (omega arith))
 
 -- lines count from 1
-heavy-least : (capacity at : ℕ) (gs : List Gate) (line : ℕ) → 0 < at → first-heavy capacity at gs ≡ some line → 0 < line
-unfolding first-heavy
-heavy-least capacity at [] line pos e = never cc
-heavy-least capacity at (g ∷ gs) line pos e =
+heavy_least : (capacity at : ℕ) (gs : List Gate) (line : ℕ) → 0 < at → first_heavy capacity at gs ≡ some line → 0 < line
+unfolding first_heavy
+heavy_least capacity at [] line pos e = never cc
+heavy_least capacity at (g ∷ gs) line pos e =
     ⊎_elim (λ t. let e' = t.1 in let same : at ≡ line = cc in omega arith)
-    (λ t. heavy-least capacity (suc at) gs line (omega arith) t.1)
-    (picked (ltb capacity g.weight) (some at) (first-heavy capacity (suc at) gs) e)
+    (λ t. heavy_least capacity (suc at) gs line (omega arith) t.1)
+    (picked (ltb capacity g.weight) (some at) (first_heavy capacity (suc at) gs) e)
 
 -- kept
 
@@ -68,67 +68,67 @@ heavy-least capacity at (g ∷ gs) line pos e =
 abbrev pub starting : Cells → Ticks → Seen
 starting capacity hop = record { header = record { capacity = capacity; hop = hop; gates = 0 }; heavy = 0 }
 
-pub known-header : (capacity : Cells) (hop : Ticks) → Known (starting capacity hop) (header-only capacity hop)
-unfolding size line-or-0 first-heavy
-known-header capacity hop = record { capacity = refl; hop = refl; gates = refl; heavy = refl }
+pub known_header : (capacity : Cells) (hop : Ticks) → Known (starting capacity hop) (header_only capacity hop)
+unfolding size line_or_0 first_heavy
+known_header capacity hop = record { capacity = refl; hop = refl; gates = refl; heavy = refl }
 
-pub known_more : (seen : Seen) (n : Network) (g : Gate) (weight : Cells) → g.weight ≡ weight.0 → Known seen n → Known (one_more seen weight) (with-one n g)
-unfolding size heavy-with
+pub known_more : (seen : Seen) (n : Network) (g : Gate) (weight : Cells) → g.weight ≡ weight.0 → Known seen n → Known (one_more seen weight) (with_one n g)
+unfolding size heavy_with
 known_more seen n g weight e k =
     let line : 2 + length n.gates ≡ seen.header.gates + 2 = omega (arith, k.gates) in
     record {
       capacity = k.capacity;
       hop = k.hop;
       gates = length-append n.gates (g ∷ []) ∙ ap (λ m. m + 1) k.gates;
-      heavy = heavy-more n.capacity 2 n.gates g (omega arith) ∙ rw (k.heavy, e, k.capacity, line);
+      heavy = heavy_more n.capacity 2 n.gates g (omega arith) ∙ rw (k.heavy, e, k.capacity, line);
     }
 
 -- told at the end
 
 pub told_none : (seen : Seen) (n : Network) → Known seen n → seen.heavy ≡ 0
     → Read.Network seen.header ≡ shown (weigh (network n))
-unfolding shown weigh told-heavy line-or-0
-told_none seen n k e = go (first-heavy n.capacity 2 n.gates) refl
+unfolding shown weigh told_heavy line_or_0
+told_none seen n k e = go (first_heavy n.capacity 2 n.gates) refl
   where
-    go : (o : Option ℕ) → first-heavy n.capacity 2 n.gates ≡ o
-        → Read.Network seen.header ≡ shown (told-heavy o n)
+    go : (o : Option ℕ) → first_heavy n.capacity 2 n.gates ≡ o
+        → Read.Network seen.header ≡ shown (told_heavy o n)
     go none f = rw (k.capacity, k.hop, k.gates)
     go (some line) f =
-        let z : line ≡ 0 = sym (ap line-or-0 f) ∙ k.heavy ∙ e in
-        absurd (omega (arith, heavy-least n.capacity 2 n.gates line (omega arith) f))
+        let z : line ≡ 0 = sym (ap line_or_0 f) ∙ k.heavy ∙ e in
+        absurd (omega (arith, heavy_least n.capacity 2 n.gates line (omega arith) f))
 
-pub told-some : (seen : Seen) (n : Network) → Known seen n → (seen.heavy ≡ 0 → ⊥)
-    → Read.Refused (at-line 9 seen.heavy) ≡ shown (weigh (network n))
-unfolding shown weigh told-heavy line-or-0
-told-some seen n k e = go (first-heavy n.capacity 2 n.gates) refl
+pub told_some : (seen : Seen) (n : Network) → Known seen n → (seen.heavy ≡ 0 → ⊥)
+    → Read.Refused (at_line 9 seen.heavy) ≡ shown (weigh (network n))
+unfolding shown weigh told_heavy line_or_0
+told_some seen n k e = go (first_heavy n.capacity 2 n.gates) refl
   where
-    go : (o : Option ℕ) → first-heavy n.capacity 2 n.gates ≡ o → Read.Refused (at-line 9 seen.heavy) ≡ shown (told-heavy o n)
-    go none f = absurd (e (sym k.heavy ∙ ap line-or-0 f))
-    go (some line) f = let same : line ≡ seen.heavy = sym (ap line-or-0 f) ∙ k.heavy in rw same
+    go : (o : Option ℕ) → first_heavy n.capacity 2 n.gates ≡ o → Read.Refused (at_line 9 seen.heavy) ≡ shown (told_heavy o n)
+    go none f = absurd (e (sym k.heavy ∙ ap line_or_0 f))
+    go (some line) f = let same : line ≡ seen.heavy = sym (ap line_or_0 f) ∙ k.heavy in rw same
 
 -- a refusal is told as it is
-pub refusal-told : (r : LineRead) (line : ℕ) (w : Reading) → w ≡ refusal-of r line → shown (refusal-of r line) ≡ shown (weigh w)
-refusal-told r line w e = ap shown (sym (ap weigh e ∙ weigh-refusal r line))
+pub refusal_told : (r : LineRead) (line : ℕ) (w : Reading) → w ≡ refusal_of r line → shown (refusal_of r line) ≡ shown (weigh w)
+refusal_told r line w e = ap shown (sym (ap weigh e ∙ weigh_refusal r line))
 
 -- On the way: the network of the lines so far, and that the walk over those that are left answers what the whole does.
 pub record Going (text : List ℕ) (first : ℕ) (start : Seen) (at : ℕ) (seen : Seen) : Type 0 where
   pub so_far : Network
   pub known : Known seen so_far
-  pub few : seen.header.gates ≤ most-gates
+  pub few : seen.header.gates ≤ most_gates
   pub same :
       walk (AfterGates seen.header.gates) (seen.header.gates + 2) so_far (lines (drop at text))
-      ≡ walk (AfterGates 0) 2 (header-only start.header.capacity start.header.hop) (lines (drop first text))
+      ≡ walk (AfterGates 0) 2 (header_only start.header.capacity start.header.hop) (lines (drop first text))
 
 pub set_out : (text : List ℕ) (first : ℕ) (capacity : Cells) (hop : Ticks)
     → Going text first (starting capacity hop) first (starting capacity hop)
 set_out text first capacity hop =
-    record { so_far = header-only capacity hop; known = known-header capacity hop; few = omega arith; same = refl }
+    record { so_far = header_only capacity hop; known = known_header capacity hop; few = omega arith; same = refl }
 
 pub go_on : (text : List ℕ) (first : ℕ) (start : Seen) (at : ℕ) (seen : Seen) (weight : Cells) (delay : Ticks) (count : FanInCount) (next : ℕ)
     → Going text first start at seen → GateRead text at seen.header.gates weight delay count next → Going text first start next (one_more seen weight)
 go_on text first start at seen weight delay count next g r =
     record {
-      so_far = with-one g.so_far r.gate;
+      so_far = with_one g.so_far r.gate;
       known = known_more seen g.so_far r.gate weight r.weighs g.known;
       few = omega (arith, r.fit.number);
       same = sym (r.on g.so_far) ∙ g.same;

@@ -14,16 +14,16 @@ use Rattle.rows.specs.declared.Read.{Read}
 use Rattle.rows.specs.declared.Read.TheVariants as Read
 use Rattle.rows.specs.declared.Header.{Header}
 use Rattle.rows.specs.Row.{too_short}
-use Rattle.rows.specs.Read.{shown, in-room, answer, filled}
+use Rattle.rows.specs.Read.{shown, in_room, answer, filled}
 use Rattle.rows.specs.contracts.Read.{the_type}
-use Rattle.reading.specs.steps.Passes.{Fits-into}
+use Rattle.reading.specs.steps.Passes.{FitsInto}
 use Rattle.reading.specs.ReadInto.{ReadInto}
 
 module _ (text row : List ℕ) (r : Read) (seen : r ≡ shown (reading text)) where
   -- the tags of the variants: Network 0, Refused 1
-  pub refused-into : OneOf (1 ∷ []) (tag_of the_type r) → ReadInto text row row r
-  unfolding shown answer in-room filled
-  refused-into other = go (reading text) refl
+  pub refused_into : OneOf (1 ∷ []) (tag_of the_type r) → ReadInto text row row r
+  unfolding shown answer in_room filled
+  refused_into other = go (reading text) refl
     where
       go : (w : Reading) → reading text ≡ w → ReadInto text row row r
       go (refused f) e = record { result = rw e (seen ∙ ap shown e); row = rw e }
@@ -46,24 +46,24 @@ module _ (text row : List ℕ) (r : Read) (seen : r ≡ shown (reading text)) wh
             let z = sym is ∙ seen ∙ ap shown e in
             record { whole = n; reads = e; sized = cc }
 
-    pub short-into : short ≡ true → (f : Refusal) → f ≡ no_room → ReadInto text row row (Read.Refused f)
-    unfolding shown answer in-room filled
-    short-into t f is-10 =
+    pub short_into : short ≡ true → (f : Refusal) → f ≡ no_room → ReadInto text row row (Read.Refused f)
+    unfolding shown answer in_room filled
+    short_into t f is_10 =
         let n = found in
         let short : too_short (size n.whole) row ≡ true = rw n.sized (sym test ∙ t) in
-        record { result = rw (n.reads, short, is-10); row = rw (n.reads, short) }
+        record { result = rw (n.reads, short, is_10); row = rw (n.reads, short) }
 
     module _ (enough : short ≡ false) where
-      pub fits-into : Fits-into text row
-      fits-into = let f = found in record { whole = f.whole; reads = f.reads; room = rw f.sized (sym test ∙ enough) }
+      pub fits_into : FitsInto text row
+      fits_into = let f = found in record { whole = f.whole; reads = f.reads; room = rw f.sized (sym test ∙ enough) }
 
       answered : answer text row ≡ reading text
-      unfolding answer in-room
+      unfolding answer in_room
       answered =
           let f = found in
           let room : too_short (size f.whole) row ≡ false = rw f.sized (sym test ∙ enough) in
           rw (f.reads, room)
 
-      pub filled-into : (after : List ℕ) → after ≡ filled (reading text) row → ReadInto text row after (Read.Network header)
-      filled-into after e =
+      pub filled_into : (after : List ℕ) → after ≡ filled (reading text) row → ReadInto text row after (Read.Network header)
+      filled_into after e =
           record { result = sym is ∙ seen ∙ ap shown (sym answered); row = e ∙ ap (λ w. filled w row) (sym answered) }

@@ -1,15 +1,15 @@
 // A network's text read into a lent row. `look` goes over the text once and writes nothing; where it finds a network for
 // which the row has room, `fill_row` goes over the gate lines once more and puts each gate into its block.
 ghost use Rattle.std.specs.Prelude.{◌≡◌, ℕ, ◌+◌, ◌≤◌, ◌<◌, drop};
-ghost use Rattle.model.specs.Ceilings.{most-gates};
+ghost use Rattle.model.specs.Ceilings.{most_gates};
 ghost use Rattle.model.specs.Network.{Network};
 ghost use Rattle.frames.specs.Text.{lines};
-ghost use Rattle.frames.specs.Frames.{fan-in-from};
+ghost use Rattle.frames.specs.Frames.{fan_in_from};
 ghost use Rattle.frames.specs.declared.Place.TheVariants.{AfterGates, Closed};
 ghost use Rattle.texts.specs.Reading.{reading, walk, weigh};
 ghost use Rattle.rows.specs.Read.{shown, filled};
 ghost use Rattle.reading.specs.ReadInto.{ReadInto};
-ghost use Rattle.reading.specs.steps.Passes.{refusal-of, heavy-with, Known, header-only, one_more, with-fan-ins, Fits-into};
+ghost use Rattle.reading.specs.steps.Passes.{refusal_of, heavy_with, Known, header_only, one_more, with_fan_ins, FitsInto};
 
 use frames::{LineRead, MISPLACED, MOST_TEXT, Place, Refusal, TOO_HEAVY, TOO_LONG};
 use rows::{Header, Read};
@@ -17,7 +17,7 @@ use units::{Cells, Ticks};
 
 // A line that is not the frame that may go on: its refusal, or 3 at the line that is missing where the text ends.
 fn refusal(read: LineRead, missing: usize) -> Read
-    ensures { result ≡ shown (refusal-of read missing) }
+    ensures { result ≡ shown (refusal_of read missing) }
 {
     let LineRead::Refused(told) = read else {
         return Read::Refused(Refusal::at_line(MISPLACED, missing));
@@ -27,7 +27,7 @@ fn refusal(read: LineRead, missing: usize) -> Read
 
 // The line of the first gate heavier than M, 0 for none so far, once one more gate was read.
 fn heavy_line(heavy: usize, weight: Cells, capacity: Cells, line: usize) -> usize
-    ensures { result ≡ heavy-with heavy weight capacity line }
+    ensures { result ≡ heavy_with heavy weight capacity line }
 {
     if heavy != 0 {
         return heavy;
@@ -49,7 +49,7 @@ struct Seen {
 impl Seen {
     // One gate more; gate v stands in line v + 2.
     fn with_gate(self, weight: Cells) -> Seen
-        requires { self.header.gates < most-gates }
+        requires { self.header.gates < most_gates }
         ensures { result ≡ one_more self weight }
     {
         let header = self.header;
@@ -70,7 +70,7 @@ impl Seen {
 
 // The text behind the end frame: nothing may stand there. Then a gate heavier than M is told.
 fn look_end(text: &[u8], at: usize, seen: Seen) -> Read
-    requires { seen.header.gates ≤ most-gates }
+    requires { seen.header.gates ≤ most_gates }
     ensures { (n : Network) → Known seen n → result ≡ shown (weigh (walk Closed (seen.header.gates + 3) n (lines (drop at text.now)))) }
 {
     let header = seen.header;
@@ -88,7 +88,7 @@ fn look_end(text: &[u8], at: usize, seen: Seen) -> Read
 
 // The gate lines from `first` on, up to the end frame, and what stands behind it.
 fn look_gates(text: &[u8], first: usize, capacity: Cells, hop: Ticks) -> Read
-    ensures { result ≡ shown (weigh (walk (AfterGates 0) 2 (header-only capacity hop) (lines (drop first text.now)))) }
+    ensures { result ≡ shown (weigh (walk (AfterGates 0) 2 (header_only capacity hop) (lines (drop first text.now)))) }
 {
     let mut at = first;
     let mut seen = Seen {
@@ -141,8 +141,8 @@ pub fn look(text: &[u8]) -> Read
 
 // Puts the fan-ins of the gate line that begins at `at` into the block of gate v.
 fn fill_fan_ins(text: &[u8], at: usize, count: usize, row: &mut [u16], v: usize)
-    requires { (i : ℕ) → i < count → fan-in-from text.now at i < 65_536 }
-    ensures { row.new ≡ with-fan-ins text.now at v 0 count row.old }
+    requires { (i : ℕ) → i < count → fan_in_from text.now at i < 65_536 }
+    ensures { row.new ≡ with_fan_ins text.now at v 0 count row.old }
 {
     let mut i = 0;
     while i < count {
@@ -153,7 +153,7 @@ fn fill_fan_ins(text: &[u8], at: usize, count: usize, row: &mut [u16], v: usize)
 
 // Puts the gates of a text into their blocks; the text is a network's, and the row has room for it.
 fn fill_row(text: &[u8], row: &mut [u16])
-    requires { Fits-into text.now row.old }
+    requires { FitsInto text.now row.old }
     ensures { row.new ≡ filled (reading text.now) row.old }
 {
     let header = frames::read_line(text, 0, Place::Opening, 1);

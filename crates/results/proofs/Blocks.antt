@@ -10,90 +10,90 @@ use lib.Dec.{ltb}
 use lib.ListN.{length, take, drop, length-append, length-drop, drop_of_length-le}
 use lib.Seq.{take_all, drop_at, drop-append-add, drop-drop}
 use Rattle.model.specs.Network.{Network, size}
-use Rattle.model.proofs.Lists.{true-or-false}
+use Rattle.model.proofs.Lists.{true_or_false}
 use Rattle.frames.specs.declared.Refusal.{Refusal}
 use Rattle.frames.specs.Refusal.{no_room}
-use Rattle.frames.specs.Digits.{spell-line}
-use Rattle.frames.proofs.Tests.{never, neither-true}
-use Rattle.frames.specs.Put.{line_at, line-answer, line_row, LineWritten}
+use Rattle.frames.specs.Digits.{spell_line}
+use Rattle.frames.proofs.Tests.{never, neither_true}
+use Rattle.frames.specs.Put.{line_at, line_answer, line_row, LineWritten}
 use Rattle.frames.specs.declared.Written.{Written}
 use Rattle.frames.specs.declared.Written.TheVariants as written
 use Rattle.texts.specs.Reading.{Reading, refused, network}
 use Rattle.texts.specs.Spelling.{join}
-use Rattle.labelling.specs.Promises.{either-short}
+use Rattle.labelling.specs.Promises.{either_short}
 use Rattle.labelling.proofs.Room.{room}
 use Rattle.selection.specs.Selection.{roots}
 use Rattle.selection.proofs.Roots.{roots_few}
 use Rattle.results.specs.declared.block.Block.{Block}
 use Rattle.results.specs.declared.block.Block.TheVariants as block
-use Rattle.results.specs.Result.{result-lines, refusal-bytes}
-use Rattle.results.specs.Line.{told_line, told-answer, told-row, LineAnswered}
-use Rattle.results.specs.Block.{fitting, run-answer, in-front, lines-answer, lines-row, LinesWritten, drawn-lines, block-answer, block_row, BlockAnswered, refusal-lines}
-use Rattle.results.specs.steps.Line.{later-lines}
-use Rattle.results.specs.steps.Block.{if-fits, Added, Begun, Ran}
-use Rattle.results.proofs.Lengths.{line-length, result_count}
-use Rattle.results.proofs.LineAt.{first-at, label_at, later-at, cluster-at, end-at}
-use Rattle.results.proofs.Fitting.{Full, length_front, drop-first}
+use Rattle.results.specs.Result.{result_lines, refusal_bytes}
+use Rattle.results.specs.Line.{told_line, told_answer, told_row, LineAnswered}
+use Rattle.results.specs.Block.{fitting, run_answer, in_front, lines_answer, lines_row, LinesWritten, drawn_lines, block_answer, block_row, BlockAnswered, refusal_lines}
+use Rattle.results.specs.steps.Line.{later_lines}
+use Rattle.results.specs.steps.Block.{if_fits, Added, Begun, Ran}
+use Rattle.results.proofs.Lengths.{line_length, result_count}
+use Rattle.results.proofs.LineAt.{first_at, label_at, later_at, cluster_at, end_at}
+use Rattle.results.proofs.Fitting.{Full, length_front, drop_first}
 
 -- a line that was written, or had no room
 
 module _ (line out : List ℕ) {r : Written} {row : List ℕ} (w : LineWritten line out r row) where
-  has_room : {bytes : ℕ} → r ≡ written.Line bytes → (length line ≤ length out) × (bytes ≡ length line) × (row ≡ in-front line out)
-  unfolding line-answer line_row
+  has_room : {bytes : ℕ} → r ≡ written.Line bytes → (length line ≤ length out) × (bytes ≡ length line) × (row ≡ in_front line out)
+  unfolding line_answer line_row
   has_room e =
       ⊎_elim (λ t. let same = sym e ∙ (rw t at w.answer) in never cc)
       (λ t. let same = sym e ∙ (rw t at w.answer) in (ltb-false _ _ t, cc, rw t at w.kept))
-      (true-or-false (ltb (length out) (length line)))
+      (true_or_false (ltb (length out) (length line)))
 
-  lacks-room : {f : Refusal} → r ≡ written.Refused f → (length out < length line) × (f ≡ no_room) × (row ≡ out)
-  unfolding line-answer line_row
-  lacks-room e =
+  lacks_room : {f : Refusal} → r ≡ written.Refused f → (length out < length line) × (f ≡ no_room) × (row ≡ out)
+  unfolding line_answer line_row
+  lacks_room e =
       ⊎_elim (λ t. let same = sym e ∙ (rw t at w.answer) in (ltb-true _ _ t, cc, rw t at w.kept))
       (λ t. let same = sym e ∙ (rw t at w.answer) in never cc)
-      (true-or-false (ltb (length out) (length line)))
+      (true_or_false (ltb (length out) (length line)))
 
 -- A line put into the part of a row from a place on.
 module _ (line out : List ℕ) (at : ℕ) (within : at ≤ length out) where
   abbrev part : List ℕ
   part = take (length out - at) (drop at out)
 
-  part-is : part ≡ drop at out
-  part-is = take_all (length out - at) (drop at out) (omega (arith, length-drop at out))
+  part_is : part ≡ drop at out
+  part_is = take_all (length out - at) (drop at out) (omega (arith, length-drop at out))
 
   length_part : length part ≡ length out - at
-  length_part = ap length part-is ∙ length-drop at out
+  length_part = ap length part_is ∙ length-drop at out
 
   behind : drop (length out - at) (drop at out) ≡ []
   behind = drop_of_length-le (drop at out) {i = length out - at} (omega (arith, length-drop at out))
 
   module _ {r : Written} {row : List ℕ} (w : LineWritten line part r row) where
-    pub not-added : {f : Refusal} → r ≡ written.Refused f → Added line at out 0 (take at out ++ (row ++ drop (length out - at) (drop at out)))
-    unfolding if-fits
-    not-added e =
-        let h = lacks-room line part w e in
+    pub not_added : {f : Refusal} → r ≡ written.Refused f → Added line at out 0 (take at out ++ (row ++ drop (length out - at) (drop at out)))
+    unfolding if_fits
+    not_added e =
+        let h = lacks_room line part w e in
         let t : ltb (length out - at) (length line) ≡ true = lt-ltb (length out - at) (length line) (omega (arith, h.0, length_part)) in
-        let kept = h.2 ∙ part-is in
+        let kept = h.2 ∙ part_is in
         let here : at + 0 ≡ at = omega arith in
         record { many = rw t; row_is = rw (t, behind, kept, append-nil, here) }
 
     pub added : {bytes : ℕ} → r ≡ written.Line bytes → Added line at out bytes (take at out ++ (row ++ drop (length out - at) (drop at out)))
-    unfolding if-fits
+    unfolding if_fits
     added e =
         let h = has_room line part w e in
         let t : ltb (length out - at) (length line) ≡ false = le-ltb (length out - at) (length line) (omega (arith, h.0, length_part)) in
-        let kept : row ≡ line ++ drop (at + length line) out = h.2 ∙ rw (part-is, drop-drop) in
+        let kept : row ≡ line ++ drop (at + length line) out = h.2 ∙ rw (part_is, drop-drop) in
         record { many = rw t h.1; row_is = rw (t, behind, kept, append-nil, h.1) }
 
 -- no line left, a first line without room, and a first line with room
 
 none_left : (out : List ℕ) → LinesWritten [] out (block.Lines 0 0) out
-unfolding lines-answer lines-row run-answer fitting join
+unfolding lines_answer lines_row run_answer fitting join
 none_left out = record { answer = refl; kept = refl }
 
-none-fits : (ls : List (List ℕ)) (out : List ℕ) {f : Refusal} → f ≡ no_room → length out < length (line_at 0 ls) → LinesWritten ls out (block.Refused f) out
-unfolding lines-answer lines-row run-answer fitting join line_at
-none-fits [] out is h = absurd (omega arith)
-none-fits (l ∷ ls) out is h = let t = lt-ltb (length out) (length l) h in record { answer = rw t (ap block.Refused is); kept = rw t }
+none_fits : (ls : List (List ℕ)) (out : List ℕ) {f : Refusal} → f ≡ no_room → length out < length (line_at 0 ls) → LinesWritten ls out (block.Refused f) out
+unfolding lines_answer lines_row run_answer fitting join line_at
+none_fits [] out is h = absurd (omega arith)
+none_fits (l ∷ ls) out is h = let t = lt-ltb (length out) (length l) h in record { answer = rw t (ap block.Refused is); kept = rw t }
 
 first_fits : (ls : List (List ℕ)) (room : ℕ) → length (line_at 0 ls) ≤ room → line_at 0 (fitting room ls) ≡ line_at 0 ls
 unfolding fitting line_at
@@ -101,15 +101,15 @@ first_fits [] room h = refl
 first_fits (l ∷ ls) room h = rw (le-ltb room (length l) h)
 
 pub some_fit : (ls : List (List ℕ)) (room : ℕ) → length (line_at 0 ls) ≤ room
-    → run-answer ls (fitting room ls) ≡ block.Lines (length (fitting room ls)) (length (join (fitting room ls)))
-unfolding fitting line_at run-answer join
+    → run_answer ls (fitting room ls) ≡ block.Lines (length (fitting room ls)) (length (join (fitting room ls)))
+unfolding fitting line_at run_answer join
 some_fit [] room h = refl
 some_fit (l ∷ ls) room h = rw (le-ltb room (length l) h)
 
-pub one-fits : (ls : List (List ℕ)) (room : ℕ) → length (line_at 0 ls) ≤ room → 0 < length ls → 0 < length (fitting room ls)
+pub one_fits : (ls : List (List ℕ)) (room : ℕ) → length (line_at 0 ls) ≤ room → 0 < length ls → 0 < length (fitting room ls)
 unfolding fitting line_at
-one-fits [] room h some = absurd (omega arith)
-one-fits (l ∷ ls) room h some = rw (le-ltb room (length l) h) (omega arith)
+one_fits [] room h some = absurd (omega arith)
+one_fits (l ∷ ls) room h some = rw (le-ltb room (length l) h) (omega arith)
 
 join_first : (ls : List (List ℕ)) → join ls ≡ line_at 0 ls ++ join (drop 1 ls)
 unfolding join line_at
@@ -117,18 +117,18 @@ join_first [] = refl
 join_first (l ∷ ls) = refl
 
 -- what stands in front already may be put there again
-front-twice : (bytes more out : List ℕ) → in-front (bytes ++ more) (in-front bytes out) ≡ in-front (bytes ++ more) out
-front-twice bytes more out = rw (length-append, drop-append-add, drop-drop)
+front_twice : (bytes more out : List ℕ) → in_front (bytes ++ more) (in_front bytes out) ≡ in_front (bytes ++ more) out
+front_twice bytes more out = rw (length-append, drop-append-add, drop-drop)
 
 module _ (ls : List (List ℕ)) (out : List ℕ) {r : Written} {row : List ℕ} (w : LineWritten (line_at 0 ls) out r row) where
-  lines-refused : {f g : Refusal} → g ≡ no_room → r ≡ written.Refused f → LinesWritten ls out (block.Refused g) row
-  lines-refused is e = let h = lacks-room (line_at 0 ls) out w e in rw h.2 (none-fits ls out is h.0)
+  lines_refused : {f g : Refusal} → g ≡ no_room → r ≡ written.Refused f → LinesWritten ls out (block.Refused g) row
+  lines_refused is e = let h = lacks_room (line_at 0 ls) out w e in rw h.2 (none_fits ls out is h.0)
 
   module _ {first : ℕ} (e : r ≡ written.Line first) where
     abbrev fits : length (line_at 0 ls) ≤ length out
     fits = (has_room (line_at 0 ls) out w e).0
 
-    abbrev row_is : row ≡ in-front (line_at 0 ls) out
+    abbrev row_is : row ≡ in_front (line_at 0 ls) out
     row_is = (has_room (line_at 0 ls) out w e).2
 
     same_length : length row ≡ length out
@@ -137,8 +137,8 @@ module _ (ls : List (List ℕ)) (out : List ℕ) {r : Written} {row : List ℕ} 
     same_first : line_at 0 (fitting (length row) ls) ≡ line_at 0 ls
     same_first = first_fits ls (length row) (omega (arith, same_length, fits))
 
-    lines-begun : Begun ls first row
-    lines-begun =
+    lines_begun : Begun ls first row
+    lines_begun =
         record {
           many = (has_room (line_at 0 ls) out w e).1 ∙ sym (ap length same_first);
           stands =
@@ -148,136 +148,136 @@ module _ (ls : List (List ℕ)) (out : List ℕ) {r : Written} {row : List ℕ} 
               (sym (ap (drop (length (line_at 0 ls))) row_is ∙ drop_at (line_at 0 ls) (drop (length (line_at 0 ls)) out) (length (line_at 0 ls)) refl)));
         }
 
-    lines-ran : {b : Block} {after : List ℕ} → Ran ls row b after → LinesWritten ls out b after
-    unfolding lines-answer lines-row
-    lines-ran ran =
+    lines_ran : {b : Block} {after : List ℕ} → Ran ls row b after → LinesWritten ls out b after
+    unfolding lines_answer lines_row
+    lines_ran ran =
         let fit = fitting (length out) ls in
         let parts : join fit ≡ line_at 0 ls ++ join (drop 1 fit) = join_first fit ∙ ap (λ (l : List ℕ). l ++ join (drop 1 fit)) (first_fits ls (length out) fits) in
         record {
           answer = (rw same_length at ran.answer) ∙ sym (some_fit ls (length out) fits);
           kept =
               (rw (same_length, row_is) at ran.kept)
-              ∙ ap (λ (bytes : List ℕ). in-front bytes (in-front (line_at 0 ls) out)) parts
-              ∙ front-twice (line_at 0 ls) (join (drop 1 fit)) out
-              ∙ sym (ap (λ (bytes : List ℕ). in-front bytes out) parts);
+              ∙ ap (λ (bytes : List ℕ). in_front bytes (in_front (line_at 0 ls) out)) parts
+              ∙ front_twice (line_at 0 ls) (join (drop 1 fit)) out
+              ∙ sym (ap (λ (bytes : List ℕ). in_front bytes out) parts);
         }
 
 -- the one line of a refusal
 
 module _ (index : ℕ) (told : Refusal) (out : List ℕ) where
-  pub refusal-none : 0 < index → LinesWritten (drop index (refusal-lines told)) out (block.Lines 0 0) out
-  refusal-none h = rw (drop_of_length-le (refusal-lines told) {i = index} (omega arith)) (none_left out)
+  pub refusal_none : 0 < index → LinesWritten (drop index (refusal_lines told)) out (block.Lines 0 0) out
+  refusal_none h = rw (drop_of_length-le (refusal_lines told) {i = index} (omega arith)) (none_left out)
 
-  module _ {r : Written} {row : List ℕ} (first : index ≡ 0) (w : LineWritten (spell-line (refusal-bytes told)) out r row) where
-    first-line : LineWritten (line_at 0 (refusal-lines told)) out r row
+  module _ {r : Written} {row : List ℕ} (first : index ≡ 0) (w : LineWritten (spell_line (refusal_bytes told)) out r row) where
+    first_line : LineWritten (line_at 0 (refusal_lines told)) out r row
     unfolding line_at
-    first-line = w
+    first_line = w
 
-    pub refusal-short : {f : Refusal} → r ≡ written.Refused f → LinesWritten (drop index (refusal-lines told)) out (block.Refused f) row
-    refusal-short e =
-        let h = lacks-room (spell-line (refusal-bytes told)) out w e in
-        rw first (lines-refused (refusal-lines told) out first-line h.1 e)
+    pub refusal_short : {f : Refusal} → r ≡ written.Refused f → LinesWritten (drop index (refusal_lines told)) out (block.Refused f) row
+    refusal_short e =
+        let h = lacks_room (spell_line (refusal_bytes told)) out w e in
+        rw first (lines_refused (refusal_lines told) out first_line h.1 e)
 
-    pub refusal-whole : {bytes : ℕ} → r ≡ written.Line bytes → LinesWritten (drop index (refusal-lines told)) out (block.Lines 1 bytes) row
-    unfolding lines-answer lines-row run-answer fitting join
-    refusal-whole e =
-        let h = has_room (spell-line (refusal-bytes told)) out w e in
-        let t = le-ltb (length out) (length (spell-line (refusal-bytes told))) h.0 in
+    pub refusal_whole : {bytes : ℕ} → r ≡ written.Line bytes → LinesWritten (drop index (refusal_lines told)) out (block.Lines 1 bytes) row
+    unfolding lines_answer lines_row run_answer fitting join
+    refusal_whole e =
+        let h = has_room (spell_line (refusal_bytes told)) out w e in
+        let t = le-ltb (length out) (length (spell_line (refusal_bytes told))) h.0 in
         record { answer = rw (first, t, append-nil, h.1); kept = rw (first, t, append-nil) h.2 }
 
 -- The lines of a result have bytes, each, and are at most two for each gate and two more.
-spelled : (bs : List ℕ) → 0 < length (spell-line bs)
-spelled bs = omega (arith, line-length bs)
+spelled : (bs : List ℕ) → 0 < length (spell_line bs)
+spelled bs = omega (arith, line_length bs)
 
 module _ (n : Network) (labels rs : List ℕ) where
-  later-full : (k : ℕ) → k ≤ length rs → 0 < length (line_at k (later-lines n labels rs))
-  later-full k h =
-      ⊎_elim (λ t. rw (cluster-at n labels rs k 0 (ltb-true _ _ t)) (spelled _))
-      (λ t. rw (end-at n labels rs k (omega (arith, ltb-false k (length rs) t))) (spelled _))
-      (true-or-false (ltb k (length rs)))
+  later_full : (k : ℕ) → k ≤ length rs → 0 < length (line_at k (later_lines n labels rs))
+  later_full k h =
+      ⊎_elim (λ t. rw (cluster_at n labels rs k 0 (ltb-true _ _ t)) (spelled _))
+      (λ t. rw (end_at n labels rs k (omega (arith, ltb-false k (length rs) t))) (spelled _))
+      (true_or_false (ltb k (length rs)))
 
-  result-full : Full (result-lines n labels rs)
-  result-full zero h = rw (first-at n labels rs refl) (spelled _)
-  result-full (suc k) h =
+  result_full : Full (result_lines n labels rs)
+  result_full zero h = rw (first_at n labels rs refl) (spelled _)
+  result_full (suc k) h =
       let e : suc k - 1 ≡ k = omega arith in
       ⊎_elim (λ t. rw (label_at n labels rs (suc k) (omega arith) (omega (arith, ltb-true k (size n) t))) (spelled _))
       (λ t.
-      rw (later-at n labels rs (suc k) (omega arith) (omega (arith, ltb-false k (size n) t)))
-      (later-full (suc k - 1 - size n) (omega (arith, result_count n labels rs, ltb-false k (size n) t))))
-      (true-or-false (ltb k (size n)))
+      rw (later_at n labels rs (suc k) (omega arith) (omega (arith, ltb-false k (size n) t)))
+      (later_full (suc k - 1 - size n) (omega (arith, result_count n labels rs, ltb-false k (size n) t))))
+      (true_or_false (ltb k (size n)))
 
 module _ (n : Network) (labels row : List ℕ) where
-  pub lines-full : Full (drawn-lines n labels row)
-  unfolding drawn-lines
-  lines-full = result-full n labels (roots row (size n))
+  pub lines_full : Full (drawn_lines n labels row)
+  unfolding drawn_lines
+  lines_full = result_full n labels (roots row (size n))
 
-  pub lines-count : length (drawn-lines n labels row) ≤ 2 + 2 * size n
-  unfolding drawn-lines
-  lines-count = omega (arith, result_count n labels (roots row (size n)), roots_few row (size n))
+  pub lines_count : length (drawn_lines n labels row) ≤ 2 + 2 * size n
+  unfolding drawn_lines
+  lines_count = omega (arith, result_count n labels (roots row (size n)), roots_few row (size n))
 
-  pub told_at : (index : ℕ) → told_line index n labels row ≡ line_at index (drawn-lines n labels row)
-  unfolding told_line drawn-lines
+  pub told_at : (index : ℕ) → told_line index n labels row ≡ line_at index (drawn_lines n labels row)
+  unfolding told_line drawn_lines
   told_at index = refl
 
-  told-first : (index : ℕ) → told_line index n labels row ≡ line_at 0 (drop index (drawn-lines n labels row))
-  told-first index = told_at index ∙ sym (drop-first index (drawn-lines n labels row))
+  told_first : (index : ℕ) → told_line index n labels row ≡ line_at 0 (drop index (drawn_lines n labels row))
+  told_first index = told_at index ∙ sym (drop_first index (drawn_lines n labels row))
 
   -- a run of lines where labels and marks have room, and where not
-  block_made : {index : ℕ} {out : List ℕ} {b : Block} {after : List ℕ} → either-short (size n) labels row ≡ false
-      → LinesWritten (drop index (drawn-lines n labels row)) out b after
+  block_made : {index : ℕ} {out : List ℕ} {b : Block} {after : List ℕ} → either_short (size n) labels row ≡ false
+      → LinesWritten (drop index (drawn_lines n labels row)) out b after
       → BlockAnswered index (network n) labels row out b after
-  unfolding block-answer block_row
+  unfolding block_answer block_row
   block_made t w = record { answer = rw t w.answer; kept = rw t w.kept }
 
   -- and what is answered where they have room
   pub block_written : {index : ℕ} {out : List ℕ} {b : Block} {after : List ℕ} → size n ≤ length labels → size n ≤ length row
       → BlockAnswered index (network n) labels row out b after
-      → LinesWritten (drop index (drawn-lines n labels row)) out b after
-  unfolding block-answer block_row
+      → LinesWritten (drop index (drawn_lines n labels row)) out b after
+  unfolding block_answer block_row
   block_written h l a =
       let t = room (size n) labels row h l in record { answer = rw t at a.answer; kept = rw t at a.kept }
 
   -- the first line's answer
   module _ {index : ℕ} {out : List ℕ} {r : Written} {row' : List ℕ} (a : LineAnswered index (network n) labels row out r row') where
-    first-written : either-short (size n) labels row ≡ false → LineWritten (line_at 0 (drop index (drawn-lines n labels row))) out r row'
-    unfolding told-answer told-row
-    first-written t = rw (← told-first index) (record { answer = rw t at a.answer; kept = rw t at a.kept })
+    first_written : either_short (size n) labels row ≡ false → LineWritten (line_at 0 (drop index (drawn_lines n labels row))) out r row'
+    unfolding told_answer told_row
+    first_written t = rw (← told_first index) (record { answer = rw t at a.answer; kept = rw t at a.kept })
 
-    pub first-refused : {f g : Refusal} → g ≡ no_room → r ≡ written.Refused f
+    pub first_refused : {f g : Refusal} → g ≡ no_room → r ≡ written.Refused f
         → BlockAnswered index (network n) labels row out (block.Refused g) row'
-    unfolding told-row block-answer block_row
-    first-refused is e =
+    unfolding told_row block_answer block_row
+    first_refused is e =
         ⊎_elim (λ t. record { answer = rw t (ap block.Refused is); kept = rw t (rw t at a.kept) })
-        (λ t. block_made t (lines-refused (drop index (drawn-lines n labels row)) out (first-written t) is e))
-        (true-or-false (either-short (size n) labels row))
+        (λ t. block_made t (lines_refused (drop index (drawn_lines n labels row)) out (first_written t) is e))
+        (true_or_false (either_short (size n) labels row))
 
     module _ {first : ℕ} (e : r ≡ written.Line first) where
-      roomy : either-short (size n) labels row ≡ false
-      unfolding told-answer
+      roomy : either_short (size n) labels row ≡ false
+      unfolding told_answer
       roomy =
           ⊎_elim (λ t. let same = sym e ∙ (rw t at a.answer) in never cc) (λ t. t)
-          (true-or-false (either-short (size n) labels row))
+          (true_or_false (either_short (size n) labels row))
 
-      pub first-rooms : (size n ≤ length labels) × (size n ≤ length row)
-      first-rooms =
-          let t = neither-true (ltb (length labels) (size n)) (ltb (length row) (size n)) roomy in (ltb-false _ _ t.0, ltb-false _ _ t.1)
+      pub first_rooms : (size n ≤ length labels) × (size n ≤ length row)
+      first_rooms =
+          let t = neither_true (ltb (length labels) (size n)) (ltb (length row) (size n)) roomy in (ltb-false _ _ t.0, ltb-false _ _ t.1)
 
-      pub first-begun : Begun (drop index (drawn-lines n labels row)) first row'
-      first-begun = lines-begun (drop index (drawn-lines n labels row)) out (first-written roomy) e
+      pub first_begun : Begun (drop index (drawn_lines n labels row)) first row'
+      first_begun = lines_begun (drop index (drawn_lines n labels row)) out (first_written roomy) e
 
-      pub first-ran : {b : Block} {after : List ℕ} → Ran (drop index (drawn-lines n labels row)) row' b after
+      pub first_ran : {b : Block} {after : List ℕ} → Ran (drop index (drawn_lines n labels row)) row' b after
           → BlockAnswered index (network n) labels row out b after
-      first-ran ran = block_made roomy (lines-ran (drop index (drawn-lines n labels row)) out (first-written roomy) e ran)
+      first_ran ran = block_made roomy (lines_ran (drop index (drawn_lines n labels row)) out (first_written roomy) e ran)
 
 -- a refusal handed on, and a network's answer
 
 module _ {reading : Reading} where
   pub block_refused : {f : Refusal} (index : ℕ) (labels row out : List ℕ) → reading ≡ refused f
       → BlockAnswered index reading labels row out (block.Refused f) out
-  unfolding block-answer block_row
+  unfolding block_answer block_row
   block_refused index labels row out e = record { answer = rw e; kept = rw e }
 
-  pub block-told : {n : Network} {index : ℕ} {labels row out : List ℕ} {b : Block} {after : List ℕ} → reading ≡ network n
+  pub block_told : {n : Network} {index : ℕ} {labels row out : List ℕ} {b : Block} {after : List ℕ} → reading ≡ network n
       → BlockAnswered index (network n) labels row out b after
       → BlockAnswered index reading labels row out b after
-  block-told e a = record { answer = rw e a.answer; kept = rw e a.kept }
+  block_told e a = record { answer = rw e a.answer; kept = rw e a.kept }

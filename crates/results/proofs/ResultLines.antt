@@ -4,76 +4,76 @@ use mathlib.Core.Path.{◌≡◌}
 use mathlib.Core.List.{List, [], ◌∷◌, ◌++◌}
 use native.Mathlib.Omega.{arith}
 use lib.ListN.{length, length-append}
-use Rattle.frames.specs.Digits.{word_bytes, spell-line}
+use Rattle.frames.specs.Digits.{word_bytes, spell_line}
 use Rattle.frames.proofs.Digits.{length_digits}
 use Rattle.frames.specs.declared.Refusal.{Refusal}
-use Rattle.frames.specs.Refusal.{at-column, no_room}
+use Rattle.frames.specs.Refusal.{at_column, no_room}
 use Rattle.frames.specs.declared.Written.{Written}
 use Rattle.frames.specs.declared.Written.TheVariants.{Refused}
 use Rattle.frames.specs.Digits.{digits}
 use Rattle.frames.specs.Put.{Put, Fed, LineWritten}
-use Rattle.frames.proofs.Puts.{Stands, put-stands, stands-then}
-use Rattle.frames.proofs.WrittenLines.{line-short, line-ends}
-use Rattle.results.specs.Result.{refusal-bytes}
-use Rattle.results.proofs.Lengths.{line-length}
+use Rattle.frames.proofs.Puts.{Stands, put_stands, stands_then}
+use Rattle.frames.proofs.WrittenLines.{line_short, line_ends}
+use Rattle.results.specs.Result.{refusal_bytes}
+use Rattle.results.proofs.Lengths.{line_length}
 
 -- two digits a byte
-length-of : (bs : List ℕ) → length (digits bs) ≡ 2 * length bs
+length_of : (bs : List ℕ) → length (digits bs) ≡ 2 * length bs
 unfolding digits
-length-of bs = length_digits bs
+length_of bs = length_digits bs
 
 -- A frame's digits stand in front of a row that has room for its line.
 pub record Laid (bs out : List ℕ) (next : ℕ) (row : List ℕ) : Type 0 where
-  pub fits : length (spell-line bs) ≤ length out
+  pub fits : length (spell_line bs) ≤ length out
   pub stands : Stands bs 0 out next row
 
 -- a row too short for a frame's line
-pub short-line : (bs out : List ℕ) {f : Refusal} → f ≡ no_room → length out < 2 * length bs + 1 → LineWritten (spell-line bs) out (Refused f) out
-short-line bs out is h = line-short (spell-line bs) out is (omega (arith, line-length bs))
+pub short_line : (bs out : List ℕ) {f : Refusal} → f ≡ no_room → length out < 2 * length bs + 1 → LineWritten (spell_line bs) out (Refused f) out
+short_line bs out is h = line_short (spell_line bs) out is (omega (arith, line_length bs))
 
 module _ {bs out : List ℕ} {next : ℕ} {row : List ℕ} (laid : Laid bs out next row) where
-  pub laid-line : {r : Written} {after : List ℕ} → Fed next row r after → LineWritten (spell-line bs) out r after
-  laid-line e = line-ends bs out next row laid.fits laid.stands _ _ e
+  pub laid_line : {r : Written} {after : List ℕ} → Fed next row r after → LineWritten (spell_line bs) out r after
+  laid_line e = line_ends bs out next row laid.fits laid.stands _ _ e
 
 -- The parts of a frame put one after the other.
 module _ {out : List ℕ} where
   first : (bs : List ℕ) {next : ℕ} {row : List ℕ} → 2 * length bs < length out → Put bs 0 out next row → Laid bs out next row
   first bs h p =
       record {
-        fits = omega (arith, line-length bs);
-        stands = put-stands bs 0 out _ _ (omega (arith, length-of bs)) p;
+        fits = omega (arith, line_length bs);
+        stands = put_stands bs 0 out _ _ (omega (arith, length_of bs)) p;
       }
 
   then : (xs ys : List ℕ) {mid next : ℕ} {part row : List ℕ} → 2 * (length xs + length ys) < length out
       → Laid xs out mid part → Put ys mid part next row → Laid (xs ++ ys) out next row
   then xs ys h s p =
       record {
-        fits = omega (arith, line-length (xs ++ ys), length-append xs ys);
-        stands = stands-then xs ys 0 out _ _ _ _ (omega (arith, length-of (xs ++ ys), length-append xs ys)) s.stands p;
+        fits = omega (arith, line_length (xs ++ ys), length-append xs ys);
+        stands = stands_then xs ys 0 out _ _ _ _ (omega (arith, length_of (xs ++ ys), length-append xs ys)) s.stands p;
       }
 
-  pub two-parts : (kind : ℕ) (xs : List ℕ) {n₁ n₂ : ℕ} {o₁ o₂ : List ℕ} → 2 + 2 * length xs < length out
+  pub two_parts : (kind : ℕ) (xs : List ℕ) {n₁ n₂ : ℕ} {o₁ o₂ : List ℕ} → 2 + 2 * length xs < length out
       → Put (kind ∷ []) 0 out n₁ o₁ → Put xs n₁ o₁ n₂ o₂ → Laid (kind ∷ xs) out n₂ o₂
-  two-parts kind xs h p₁ p₂ = then (kind ∷ []) xs (omega arith) (first (kind ∷ []) (omega arith) p₁) p₂
+  two_parts kind xs h p₁ p₂ = then (kind ∷ []) xs (omega arith) (first (kind ∷ []) (omega arith) p₁) p₂
 
-  pub three-parts : (kind : ℕ) (xs ys : List ℕ) {n₁ n₂ n₃ : ℕ} {o₁ o₂ o₃ : List ℕ} → 2 + 2 * (length xs + length ys) < length out
+  pub three_parts : (kind : ℕ) (xs ys : List ℕ) {n₁ n₂ n₃ : ℕ} {o₁ o₂ o₃ : List ℕ} → 2 + 2 * (length xs + length ys) < length out
       → Put (kind ∷ []) 0 out n₁ o₁ → Put xs n₁ o₁ n₂ o₂ → Put ys n₂ o₂ n₃ o₃ → Laid (kind ∷ xs ++ ys) out n₃ o₃
-  three-parts kind xs ys h p₁ p₂ p₃ = then (kind ∷ xs) ys (omega arith) (two-parts kind xs (omega arith) p₁ p₂) p₃
+  three_parts kind xs ys h p₁ p₂ p₃ = then (kind ∷ xs) ys (omega arith) (two_parts kind xs (omega arith) p₁ p₂) p₃
 
-  pub four-parts : (kind : ℕ) (xs ys zs : List ℕ) {n₁ n₂ n₃ n₄ : ℕ} {o₁ o₂ o₃ o₄ : List ℕ}
+  pub four_parts : (kind : ℕ) (xs ys zs : List ℕ) {n₁ n₂ n₃ n₄ : ℕ} {o₁ o₂ o₃ o₄ : List ℕ}
       → 2 + 2 * (length xs + length ys + length zs) < length out
       → Put (kind ∷ []) 0 out n₁ o₁ → Put xs n₁ o₁ n₂ o₂ → Put ys n₂ o₂ n₃ o₃ → Put zs n₃ o₃ n₄ o₄
       → Laid (kind ∷ xs ++ ys ++ zs) out n₄ o₄
-  four-parts kind xs ys zs h p₁ p₂ p₃ p₄ =
-      then (kind ∷ xs ++ ys) zs (omega (arith, length-append xs ys)) (three-parts kind xs ys (omega arith) p₁ p₂ p₃) p₄
+  four_parts kind xs ys zs h p₁ p₂ p₃ p₄ =
+      then (kind ∷ xs ++ ys) zs (omega (arith, length-append xs ys)) (three_parts kind xs ys (omega arith) p₁ p₂ p₃) p₄
 
 -- Two bytes hold what a number leaves by 65,536.
 wraps : (n : ℕ) → (n % 65_536 / 256 % 256 ≡ n / 256 % 256) × (n % 65_536 % 256 ≡ n % 256)
 wraps n = (omega arith, omega arith)
 
-pub refusal-wraps : (f : Refusal) → refusal-bytes (at-column f.number (f.line % 65_536) (f.column % 65_536)) ≡ refusal-bytes f
-unfolding refusal-bytes word_bytes
-refusal-wraps f =
+pub refusal_wraps : (f : Refusal) → refusal_bytes (at_column f.number (f.line % 65_536) (f.column % 65_536)) ≡ refusal_bytes f
+unfolding refusal_bytes word_bytes
+refusal_wraps f =
     let line = wraps f.line in
     let column = wraps f.column in
     rw (line.0, line.1, column.0, column.1)

@@ -4,13 +4,13 @@ use Rattle.model.specs.Network.{Network, size}
 use Rattle.frames.specs.declared.Refusal.{Refusal}
 use Rattle.frames.specs.Refusal.{no_room}
 use Rattle.texts.specs.Reading.{Reading, refused, network}
-use Rattle.frames.specs.Digits.{spell-line}
+use Rattle.frames.specs.Digits.{spell_line}
 use Rattle.texts.specs.Spelling.{join}
-use Rattle.labelling.specs.Promises.{either-short}
+use Rattle.labelling.specs.Promises.{either_short}
 use Rattle.selection.specs.Selection.{roots}
 use Rattle.results.specs.declared.block.Block.{Block}
 use Rattle.results.specs.declared.block.Block.TheVariants as block
-use Rattle.results.specs.Result.{result-lines, refusal-bytes}
+use Rattle.results.specs.Result.{result_lines, refusal_bytes}
 
 -- [R7] as many whole lines from the front as together have room
 unfoldable pub fitting : ℕ → List (List ℕ) → List (List ℕ)
@@ -25,45 +25,45 @@ pub record LongestRun (room : ℕ) (ls run : List (List ℕ)) : Type 0 where
 
 -- The answer for the lines that are left and those of them that fit: how many fit and their bytes; 10 at line 0 where a
 -- line is left and none fits.
-unfoldable pub run-answer : List (List ℕ) → List (List ℕ) → Block
-run-answer [] fit = block.Lines 0 0
-run-answer (l ∷ ls) [] = block.Refused no_room
-run-answer (l ∷ ls) (f ∷ fit) = block.Lines (length (f ∷ fit)) (length (join (f ∷ fit)))
+unfoldable pub run_answer : List (List ℕ) → List (List ℕ) → Block
+run_answer [] fit = block.Lines 0 0
+run_answer (l ∷ ls) [] = block.Refused no_room
+run_answer (l ∷ ls) (f ∷ fit) = block.Lines (length (f ∷ fit)) (length (join (f ∷ fit)))
 
 -- some bytes in front of a row, the rest of the row as it was
-abbrev pub in-front : List ℕ → List ℕ → List ℕ
-in-front bytes out = bytes ++ drop (length bytes) out
+abbrev pub in_front : List ℕ → List ℕ → List ℕ
+in_front bytes out = bytes ++ drop (length bytes) out
 
-unfoldable pub lines-answer : List (List ℕ) → List ℕ → Block
-lines-answer ls out = run-answer ls (fitting (length out) ls)
+unfoldable pub lines_answer : List (List ℕ) → List ℕ → Block
+lines_answer ls out = run_answer ls (fitting (length out) ls)
 
 -- [R3] The row afterwards: the lines that fit in front, the rest as it was; where none fits all of it as it was.
-unfoldable pub lines-row : List (List ℕ) → List ℕ → List ℕ
-lines-row ls out = in-front (join (fitting (length out) ls)) out
+unfoldable pub lines_row : List (List ℕ) → List ℕ → List ℕ
+lines_row ls out = in_front (join (fitting (length out) ls)) out
 
 pub record LinesWritten (ls : List (List ℕ)) (out : List ℕ) (r : Block) (row : List ℕ) : Type 0 where
-  pub answer : r ≡ lines-answer ls out
-  pub kept : row ≡ lines-row ls out
+  pub answer : r ≡ lines_answer ls out
+  pub kept : row ≡ lines_row ls out
 
 -- The lines of the result of a network, from labels and marks. The marked gates are the roots.
-unfoldable pub drawn-lines : Network → List ℕ → List ℕ → List (List ℕ)
-drawn-lines n labels row = result-lines n labels (roots row (size n))
+unfoldable pub drawn_lines : Network → List ℕ → List ℕ → List (List ℕ)
+drawn_lines n labels row = result_lines n labels (roots row (size n))
 
 -- A refusal of the text that the row spells is handed on; the labels and the marks need a place for each gate.
-unfoldable pub block-answer : ℕ → Reading → List ℕ → List ℕ → List ℕ → Block
-block-answer index (refused f) labels row out = block.Refused f
-block-answer index (network n) labels row out =
-    cond (either-short (size n) labels row) (block.Refused no_room) (lines-answer (drop index (drawn-lines n labels row)) out)
+unfoldable pub block_answer : ℕ → Reading → List ℕ → List ℕ → List ℕ → Block
+block_answer index (refused f) labels row out = block.Refused f
+block_answer index (network n) labels row out =
+    cond (either_short (size n) labels row) (block.Refused no_room) (lines_answer (drop index (drawn_lines n labels row)) out)
 
 unfoldable pub block_row : ℕ → Reading → List ℕ → List ℕ → List ℕ → List ℕ
 block_row index (refused f) labels row out = out
 block_row index (network n) labels row out =
-    cond (either-short (size n) labels row) out (lines-row (drop index (drawn-lines n labels row)) out)
+    cond (either_short (size n) labels row) out (lines_row (drop index (drawn_lines n labels row)) out)
 
 pub record BlockAnswered (index : ℕ) (reading : Reading) (labels row out : List ℕ) (r : Block) (after : List ℕ) : Type 0 where
-  pub answer : r ≡ block-answer index reading labels row out
+  pub answer : r ≡ block_answer index reading labels row out
   pub kept : after ≡ block_row index reading labels row out
 
 -- [F13] the lines of a refusal: one
-abbrev pub refusal-lines : Refusal → List (List ℕ)
-refusal-lines f = spell-line (refusal-bytes f) ∷ []
+abbrev pub refusal_lines : Refusal → List (List ℕ)
+refusal_lines f = spell_line (refusal_bytes f) ∷ []

@@ -3,27 +3,27 @@ use Rattle.std.specs.Prelude.{ℕ, ◌≡◌, cond, List}
 use Rattle.model.specs.Network.{Network, size}
 use Rattle.frames.specs.Refusal.{no_room}
 use Rattle.texts.specs.Reading.{Reading, refused, network}
-use Rattle.frames.specs.Put.{line_at, line-answer, line_row}
+use Rattle.frames.specs.Put.{line_at, line_answer, line_row}
 use Rattle.frames.specs.declared.Written.{Written}
 use Rattle.frames.specs.declared.Written.TheVariants as written
-use Rattle.labelling.specs.Promises.{either-short}
+use Rattle.labelling.specs.Promises.{either_short}
 use Rattle.selection.specs.Selection.{roots}
-use Rattle.results.specs.Result.{result-lines}
+use Rattle.results.specs.Result.{result_lines}
 
 -- [R6] One line of the result of a network, from labels and marks. The marked gates are the roots.
 unfoldable pub told_line : ℕ → Network → List ℕ → List ℕ → List ℕ
-told_line index n labels row = line_at index (result-lines n labels (roots row (size n)))
+told_line index n labels row = line_at index (result_lines n labels (roots row (size n)))
 
-unfoldable pub told-answer : ℕ → Reading → List ℕ → List ℕ → List ℕ → Written
-told-answer index (refused f) labels row out = written.Refused f
-told-answer index (network n) labels row out =
-    cond (either-short (size n) labels row) (written.Refused no_room) (line-answer (told_line index n labels row) out)
+unfoldable pub told_answer : ℕ → Reading → List ℕ → List ℕ → List ℕ → Written
+told_answer index (refused f) labels row out = written.Refused f
+told_answer index (network n) labels row out =
+    cond (either_short (size n) labels row) (written.Refused no_room) (line_answer (told_line index n labels row) out)
 
-unfoldable pub told-row : ℕ → Reading → List ℕ → List ℕ → List ℕ → List ℕ
-told-row index (refused f) labels row out = out
-told-row index (network n) labels row out =
-    cond (either-short (size n) labels row) out (line_row (told_line index n labels row) out)
+unfoldable pub told_row : ℕ → Reading → List ℕ → List ℕ → List ℕ → List ℕ
+told_row index (refused f) labels row out = out
+told_row index (network n) labels row out =
+    cond (either_short (size n) labels row) out (line_row (told_line index n labels row) out)
 
 pub record LineAnswered (index : ℕ) (reading : Reading) (labels row out : List ℕ) (r : Written) (after : List ℕ) : Type 0 where
-  pub answer : r ≡ told-answer index reading labels row out
-  pub kept : after ≡ told-row index reading labels row out
+  pub answer : r ≡ told_answer index reading labels row out
+  pub kept : after ≡ told_row index reading labels row out

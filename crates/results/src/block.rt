@@ -3,10 +3,10 @@
 ghost use Rattle.std.specs.Prelude.{◌≤◌, length, drop};
 ghost use Rattle.frames.specs.Put.{line_at};
 ghost use Rattle.texts.specs.Reading.{network};
-ghost use Rattle.rows.specs.Row.{network-in};
-ghost use Rattle.rows.specs.Spelling.{row-answer};
+ghost use Rattle.rows.specs.Row.{network_in};
+ghost use Rattle.rows.specs.Spelling.{row_answer};
 ghost use Rattle.rows.specs.steps.Holds.{Holds};
-ghost use Rattle.results.specs.Block.{drawn-lines, refusal-lines, LinesWritten, BlockAnswered};
+ghost use Rattle.results.specs.Block.{drawn_lines, refusal_lines, LinesWritten, BlockAnswered};
 ghost use Rattle.results.specs.steps.Block.{Added, Begun, Ran};
 
 use crate::line::{known_line, refusal_line};
@@ -22,7 +22,7 @@ pub enum Block {
 
 // The one line of a refusal; past it nothing.
 pub fn refusal_lines(index: usize, refusal: Refusal, out: &mut [u8]) -> Block
-    ensures { LinesWritten (drop index (refusal-lines refusal)) out.old result out.new }
+    ensures { LinesWritten (drop index (refusal_lines refusal)) out.old result out.new }
 {
     if index > 0 {
         return Block::Lines {
@@ -49,7 +49,7 @@ fn line_from(
 ) -> usize
     requires { Holds header row.now × (header.gates ≤ length labels.now) × (header.gates ≤ length marks.now) × (at ≤ length out.old) }
     ensures { Added
-        (line_at index (drawn-lines (network-in header row.now) labels.now marks.now))
+        (line_at index (drawn_lines (network_in header row.now) labels.now marks.now))
         at out.old result out.new }
 {
     let written = known_line(index, header, row, labels, marks, &mut out[at..]);
@@ -70,9 +70,9 @@ fn lines_behind(
     out: &mut [u8],
 ) -> Block
     requires holds { Holds header row.now × (header.gates ≤ length labels.now) × (header.gates ≤ length marks.now) }
-    requires begun { Begun (drop index (drawn-lines (network-in header row.now) labels.now marks.now)) first out.old }
+    requires begun { Begun (drop index (drawn_lines (network_in header row.now) labels.now marks.now)) first out.old }
     ensures { Ran
-        (drop index (drawn-lines (network-in header row.now) labels.now marks.now))
+        (drop index (drawn_lines (network_in header row.now) labels.now marks.now))
         out.old result out.new }
 {
     let mut length = first;
@@ -96,7 +96,7 @@ fn known_lines(
     out: &mut [u8],
 ) -> Block
     requires { Holds header row.now }
-    ensures { BlockAnswered index (network (network-in header row.now)) labels.now marks.now out.old result out.new }
+    ensures { BlockAnswered index (network (network_in header row.now)) labels.now marks.now out.old result out.new }
 {
     let written = known_line(index, header, row, labels, marks, out);
     let Written::Line(first) = written else {
@@ -116,7 +116,7 @@ pub fn lines(
     marks: &[u8],
     out: &mut [u8],
 ) -> Block
-    ensures { BlockAnswered index (row-answer header row.now) labels.now marks.now out.old result out.new }
+    ensures { BlockAnswered index (row_answer header row.now) labels.now marks.now out.old result out.new }
 {
     let read = rows::check(header, row);
     let Read::Network(known) = read else {

@@ -2,17 +2,17 @@
 // line is written into a lent row from its start. A row too short for the line answers 10 and is left as it was.
 ghost use Rattle.std.specs.Prelude.{◌≤◌, ◌<◌, ◌^◌, length};
 ghost use Rattle.model.specs.Drawing.{members as members-in};
-ghost use Rattle.units.specs.Units.{label-place};
-ghost use Rattle.frames.specs.Digits.{spell-line};
+ghost use Rattle.units.specs.Units.{label_place};
+ghost use Rattle.frames.specs.Digits.{spell_line};
 ghost use Rattle.frames.specs.Put.{LineWritten, line_at};
 ghost use Rattle.texts.specs.Reading.{network};
-ghost use Rattle.rows.specs.Row.{network-in};
-ghost use Rattle.rows.specs.Spelling.{row-answer};
+ghost use Rattle.rows.specs.Row.{network_in};
+ghost use Rattle.rows.specs.Spelling.{row_answer};
 ghost use Rattle.rows.specs.steps.Holds.{Holds};
 ghost use Rattle.selection.specs.Selection.{roots};
-ghost use Rattle.results.specs.Result.{result-bytes, label-bytes, cluster-bytes, result-end-bytes, refusal-bytes};
+ghost use Rattle.results.specs.Result.{result_bytes, label_bytes, cluster_bytes, result_end_bytes, refusal_bytes};
 ghost use Rattle.results.specs.Line.{LineAnswered};
-ghost use Rattle.results.specs.steps.Line.{later-lines};
+ghost use Rattle.results.specs.steps.Line.{later_lines};
 
 use frames::put::{feed, put_byte, put_long, put_word, put_words};
 use frames::{Refusal, Written};
@@ -22,7 +22,7 @@ use units::{GateNumber, Ticks};
 
 // The first line: the output delay and how many clusters are drawn [F6].
 fn result_line(delay: Ticks, clusters: u16, out: &mut [u8]) -> Written
-    ensures { LineWritten (spell-line (result-bytes (label-place delay) clusters)) out.old result out.new }
+    ensures { LineWritten (spell_line (result_bytes (label_place delay) clusters)) out.old result out.new }
 {
     if out.len() < 15 {
         return Written::Refused(Refusal::no_room());
@@ -35,7 +35,7 @@ fn result_line(delay: Ticks, clusters: u16, out: &mut [u8]) -> Written
 
 // A gate and its label [F7].
 fn label_line(gate: u16, label: u32, out: &mut [u8]) -> Written
-    ensures { LineWritten (spell-line (label-bytes gate label)) out.old result out.new }
+    ensures { LineWritten (spell_line (label_bytes gate label)) out.old result out.new }
 {
     if out.len() < 15 {
         return Written::Refused(Refusal::no_room());
@@ -49,7 +49,7 @@ fn label_line(gate: u16, label: u32, out: &mut [u8]) -> Written
 // A root, how many members its cluster has, and they [F8].
 fn cluster_line(root: u16, members: &[u16], out: &mut [u8]) -> Written
     requires { length members.now < 2 ^ 16 }
-    ensures { LineWritten (spell-line (cluster-bytes root members.now)) out.old result out.new }
+    ensures { LineWritten (spell_line (cluster_bytes root members.now)) out.old result out.new }
 {
     if out.len() < 11 + 4 * members.len() {
         return Written::Refused(Refusal::no_room());
@@ -63,7 +63,7 @@ fn cluster_line(root: u16, members: &[u16], out: &mut [u8]) -> Written
 
 // The last line: how many gates there are [F9].
 fn end_line(gates: u16, out: &mut [u8]) -> Written
-    ensures { LineWritten (spell-line (result-end-bytes gates)) out.old result out.new }
+    ensures { LineWritten (spell_line (result_end_bytes gates)) out.old result out.new }
 {
     if out.len() < 7 {
         return Written::Refused(Refusal::no_room());
@@ -76,7 +76,7 @@ fn end_line(gates: u16, out: &mut [u8]) -> Written
 // A refusal's line [F10]. No text has a line or a column that two bytes do not hold; of a number that they do not hold the two
 // lowest bytes are written.
 pub fn refusal_line(refusal: Refusal, out: &mut [u8]) -> Written
-    ensures { LineWritten (spell-line (refusal-bytes refusal)) out.old result out.new }
+    ensures { LineWritten (spell_line (refusal_bytes refusal)) out.old result out.new }
 {
     if out.len() < 13 {
         return Written::Refused(Refusal::no_room());
@@ -92,7 +92,7 @@ pub fn refusal_line(refusal: Refusal, out: &mut [u8]) -> Written
 fn member_line(header: Header, row: &[u16], labels: &[u32], root: usize, out: &mut [u8]) -> Written
     requires { Holds header row.now × (root < header.gates) × (header.gates ≤ length labels.now) }
     ensures { LineWritten
-        (spell-line (cluster-bytes root (members-in (network-in header row.now) labels.now root)))
+        (spell_line (cluster_bytes root (members-in (network_in header row.now) labels.now root)))
         out.old result out.new }
 {
     let mut members = [0; GateNumber::MOST_GATES];
@@ -111,7 +111,7 @@ fn later_line(
 ) -> Written
     requires { Holds header row.now × (header.gates ≤ length labels.now) }
     ensures { LineWritten
-        (line_at index (later-lines (network-in header row.now) labels.now (roots marks.now header.gates)))
+        (line_at index (later_lines (network_in header row.now) labels.now (roots marks.now header.gates)))
         out.old result out.new }
 {
     let gates = header.gates;
@@ -136,7 +136,7 @@ pub(crate) fn known_line(
     out: &mut [u8],
 ) -> Written
     requires { Holds header row.now }
-    ensures { LineAnswered index (network (network-in header row.now)) labels.now marks.now out.old result out.new }
+    ensures { LineAnswered index (network (network_in header row.now)) labels.now marks.now out.old result out.new }
 {
     let gates = header.gates;
     if labels.len() < gates || marks.len() < gates {
@@ -165,7 +165,7 @@ pub fn line(
     marks: &[u8],
     out: &mut [u8],
 ) -> Written
-    ensures { LineAnswered index (row-answer header row.now) labels.now marks.now out.old result out.new }
+    ensures { LineAnswered index (row_answer header row.now) labels.now marks.now out.old result out.new }
 {
     let read = rows::check(header, row);
     let Read::Network(known) = read else {

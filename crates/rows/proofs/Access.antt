@@ -11,14 +11,14 @@ use borrow.Author.Tests.{lt-ltb, le-ltb, le-leb, lt-leb, eq-eqb, ne_eqb}
 use lib.ListN.{length, get_or, set, take, drop, replicate, length-take}
 use lib.Seq.{sets, take-nil, get_or-take, get_or-drop, take-take, drop-drop}
 use lib.Dec.{ltb, eqb}
-use Rattle.model.specs.Ceilings.{most-fanins}
+use Rattle.model.specs.Ceilings.{most_fanins}
 use Rattle.model.specs.Network.{empty}
 use Rattle.units.specs.declared.Cells.{Cells}
 use Rattle.units.specs.declared.Ticks.{Ticks}
 use Rattle.units.specs.declared.FanInCount.{FanInCount}
-use Rattle.units.specs.Units.{weight-place, delay-place, count-place}
-use Rattle.rows.specs.Row.{places, has_block, block, count-in, fanins-in, gate-put, fanin-put}
-use Rattle.rows.proofs.Blocks.{block-there, length-fanins}
+use Rattle.units.specs.Units.{weight_place, delay_place, count_place}
+use Rattle.rows.specs.Row.{places, has_block, block, count_in, fanins_in, gate_put, fanin_put}
+use Rattle.rows.proofs.Blocks.{block_there, length_fanins}
 
 -- the whole blocks of a row
 abbrev pub whole : List ℕ → ℕ
@@ -33,13 +33,13 @@ eleventh l gates =
     ]
 
 -- what is empty has no length
-pub empty-length : (xs : List ℕ) → eqb (length xs) 0 ≡ empty xs
+pub empty_length : (xs : List ℕ) → eqb (length xs) 0 ≡ empty xs
 unfolding empty
-empty-length [] = refl
-empty-length (x ∷ xs) = ne_eqb (length (x ∷ xs)) 0 (λ e. omega arith)
+empty_length [] = refl
+empty_length (x ∷ xs) = ne_eqb (length (x ∷ xs)) 0 (λ e. omega arith)
 
 -- of a number, held at eight or not, it is the same to be 0
-same_test : (k n : ℕ) → n ≡ min k most-fanins → eqb k 0 ≡ eqb n 0
+same_test : (k n : ℕ) → n ≡ min k most_fanins → eqb k 0 ≡ eqb n 0
 same_test k n e =
     elim (ℕ_discrete k 0) [
       | yes z ↦ eq-eqb k 0 z ∙ sym (eq-eqb n 0 (omega arith))
@@ -54,17 +54,17 @@ part_of m (suc n) k (x ∷ l) h = rw (suc-add n k) (part_of m n k l h)
 
 -- The row with 0 in the places of the fan-ins from the i-th on, of a block that starts at `from`: what is left to store.
 abbrev pub zeroed : ℕ → List ℕ → ℕ → List ℕ
-zeroed from row i = sets row (from + 3 + i) (replicate (most-fanins - i) 0)
+zeroed from row i = sets row (from + 3 + i) (replicate (most_fanins - i) 0)
 
 module _ (from : ℕ) (row : List ℕ) (i : ℕ) where
-  pub zeroed-next : i < most-fanins → zeroed from (set row (from + 3 + i) 0) (i + 1) ≡ zeroed from row i
-  zeroed-next h =
-      let left : most-fanins - i ≡ suc (most-fanins - (i + 1)) = omega arith in
+  pub zeroed_next : i < most_fanins → zeroed from (set row (from + 3 + i) 0) (i + 1) ≡ zeroed from row i
+  zeroed_next h =
+      let left : most_fanins - i ≡ suc (most_fanins - (i + 1)) = omega arith in
       let next : from + 3 + (i + 1) ≡ suc (from + 3 + i) = omega arith in
       rw (left, next)
 
-  pub zeroed-over : most-fanins ≤ i → zeroed from row i ≡ row
-  zeroed-over h = let left : most-fanins - i ≡ 0 = omega arith in rw left
+  pub zeroed_over : most_fanins ≤ i → zeroed from row i ≡ row
+  zeroed_over h = let left : most_fanins - i ≡ 0 = omega arith in rw left
 
 module _ (row : List ℕ) (v : ℕ) where
   -- a row without the block
@@ -81,9 +81,9 @@ module _ (row : List ℕ) (v : ℕ) where
     pub place_none : (k : ℕ) → 0 ≡ get_or (block row v) k 0
     place_none k = rw no_block
 
-    pub fanins-none : [] ≡ fanins-in row v
-    unfolding fanins-in
-    fanins-none = rw no_block (sym (take-nil (min 0 most-fanins)))
+    pub fanins_none : [] ≡ fanins_in row v
+    unfolding fanins_in
+    fanins_none = rw no_block (sym (take-nil (min 0 most_fanins)))
 
   -- a row with the block
 
@@ -92,56 +92,56 @@ module _ (row : List ℕ) (v : ℕ) where
     unfolding has_block
     blocked = le-leb (places * suc v) (length row) (omega arith)
 
-    block-part : block row v ≡ take places (drop (places * v) row)
-    block-part = block-there row v (omega arith)
+    block_part : block row v ≡ take places (drop (places * v) row)
+    block_part = block_there row v (omega arith)
 
     pub place_at : (k : ℕ) → k < places → get_or row (places * v + k) 0 ≡ get_or (block row v) k 0
-    place_at k small = rw (block-part, get_or-take places (drop (places * v) row) k 0 small, get_or-drop)
+    place_at k small = rw (block_part, get_or-take places (drop (places * v) row) k 0 small, get_or-drop)
 
-    pub fanins-at : (many : ℕ) → many ≡ min (count-in row v) most-fanins → take many (drop (places * v + 3) row) ≡ fanins-in row v
-    unfolding fanins-in
-    fanins-at many e = rw (← e, block-part, part_of many 3 most-fanins (drop (places * v) row) (omega arith), drop-drop)
+    pub fanins_at : (many : ℕ) → many ≡ min (count_in row v) most_fanins → take many (drop (places * v + 3) row) ≡ fanins_in row v
+    unfolding fanins_in
+    fanins_at many e = rw (← e, block_part, part_of many 3 most_fanins (drop (places * v) row) (omega arith), drop-drop)
 
   -- a gate has no fan-ins where its count is 0, and where there is no block
-  pub input-counted : eqb (count-in row v) 0 ≡ empty (fanins-in row v)
-  input-counted =
+  pub input_counted : eqb (count_in row v) 0 ≡ empty (fanins_in row v)
+  input_counted =
       elim (dec_lt v (whole row)) [
         | yes h ↦
-            same_test (count-in row v) (length (fanins-in row v)) (length-fanins row v (omega arith)) ∙ empty-length (fanins-in row v)
+            same_test (count_in row v) (length (fanins_in row v)) (length_fanins row v (omega arith)) ∙ empty_length (fanins_in row v)
         | no h ↦
             let none : whole row ≤ v = omega arith in
-            rw (← fanins-none none) (unfold count-in empty in rw (← place_none none 2))
+            rw (← fanins_none none) (unfold count_in empty in rw (← place_none none 2))
       ]
 
-  pub few-fanins : length (fanins-in row v) ≤ most-fanins
-  unfolding fanins-in
-  few-fanins = simp length-take (omega arith)
+  pub few_fanins : length (fanins_in row v) ≤ most_fanins
+  unfolding fanins_in
+  few_fanins = simp length-take (omega arith)
 
   -- stores
 
   module _ (i x : ℕ) where
-    pub fanin-blockless : whole row ≤ v → row ≡ fanin-put v i x row
-    unfolding fanin-put
-    fanin-blockless h = rw (blockless h)
+    pub fanin_blockless : whole row ≤ v → row ≡ fanin_put v i x row
+    unfolding fanin_put
+    fanin_blockless h = rw (blockless h)
 
-    pub fanin-placeless : v < whole row → most-fanins ≤ i → row ≡ fanin-put v i x row
-    unfolding fanin-put
-    fanin-placeless h g = rw (blocked h, le-ltb i most-fanins g)
+    pub fanin_placeless : v < whole row → most_fanins ≤ i → row ≡ fanin_put v i x row
+    unfolding fanin_put
+    fanin_placeless h g = rw (blocked h, le-ltb i most_fanins g)
 
-    pub fanin-stored : v < whole row → i < most-fanins → set row (places * v + 3 + i) x ≡ fanin-put v i x row
-    unfolding fanin-put
-    fanin-stored h g = rw (blocked h, lt-ltb i most-fanins g, add_assoc (places * v) 3 i)
+    pub fanin_stored : v < whole row → i < most_fanins → set row (places * v + 3 + i) x ≡ fanin_put v i x row
+    unfolding fanin_put
+    fanin_stored h g = rw (blocked h, lt-ltb i most_fanins g, add_assoc (places * v) 3 i)
 
   module _ (weight : Cells) (delay : Ticks) (count : FanInCount) where
-    pub gate-blockless : whole row ≤ v → row ≡ gate-put v weight delay count row
-    unfolding gate-put
-    gate-blockless h = rw (blockless h)
+    pub gate_blockless : whole row ≤ v → row ≡ gate_put v weight delay count row
+    unfolding gate_put
+    gate_blockless h = rw (blockless h)
 
-    pub gate-stored : {w d k : ℕ} → v < whole row → w ≡ weight-place weight → d ≡ delay-place delay → k ≡ count-place count
+    pub gate_stored : {w d k : ℕ} → v < whole row → w ≡ weight_place weight → d ≡ delay_place delay → k ≡ count_place count
         → zeroed (places * v) (set (set (set row (places * v + 0) w) (places * v + 1) d) (places * v + 2) k) 0
-        ≡ gate-put v weight delay count row
-    unfolding gate-put
-    gate-stored h ew ed ek =
+        ≡ gate_put v weight delay count row
+    unfolding gate_put
+    gate_stored h ew ed ek =
         let at0 : places * v + 0 ≡ places * v = omega arith in
         let at1 : places * v + 1 ≡ suc (places * v) = omega arith in
         let at2 : places * v + 2 ≡ suc (suc (places * v)) = omega arith in

@@ -7,67 +7,67 @@ use native.Mathlib.Omega.{arith}
 use types.Run.{OneOf, miss}
 use denote.Enum.Declared.{tag_of}
 use Rattle.model.specs.Network.{Network}
-use Rattle.units.specs.Units.{cells, ticks, capacity-place, delay-place}
+use Rattle.units.specs.Units.{cells, ticks, capacity_place, delay_place}
 use Rattle.frames.specs.declared.Refusal.{Refusal}
 use Rattle.frames.specs.Refusal.{no_room}
 use Rattle.frames.proofs.Tests.{never}
 use Rattle.texts.specs.Reading.{Reading, refused, network, reading}
 use Rattle.texts.specs.Spelling.{join}
-use Rattle.texts.proofs.AcceptedNetwork.{accepted-well-formed, accepted-within-ceilings, accepted-not-heavy}
+use Rattle.texts.proofs.AcceptedNetwork.{accepted_well_formed, accepted_within_ceilings, accepted_not_heavy}
 use Rattle.rows.specs.declared.Header.{Header}
 use Rattle.rows.specs.declared.Read.{Read}
 use Rattle.rows.specs.declared.Read.TheVariants as Read
 use Rattle.rows.specs.declared.Fault.{Fault}
 use Rattle.rows.specs.declared.Fault.TheVariants.{None, Found}
-use Rattle.rows.specs.Row.{too_short, network-in, header_of}
-use Rattle.rows.specs.Spelling.{row-lines, spell, row-answer}
-use Rattle.rows.specs.Read.{shown, checked, refusal-in}
-use Rattle.rows.specs.steps.RowCheck.{settled, row-fault, unless-fault, row-check}
+use Rattle.rows.specs.Row.{too_short, network_in, header_of}
+use Rattle.rows.specs.Spelling.{row_lines, spell, row_answer}
+use Rattle.rows.specs.Read.{shown, checked, refusal_in}
+use Rattle.rows.specs.steps.RowCheck.{settled, row_fault, unless_fault, row_check}
 use Rattle.rows.specs.steps.Holds.{Holds}
 use Rattle.rows.specs.contracts.Read.{the_type}
-use Rattle.rows.proofs.Holds.{InRange, network-size}
-use Rattle.rows.proofs.RowCheck.{row-answer-check, Answered, row-answered}
+use Rattle.rows.proofs.Holds.{InRange, network_size}
+use Rattle.rows.proofs.RowCheck.{row_answer_check, Answered, row_answered}
 
 -- the header of the network that stands in a row
-header-in : (h : Header) (row : List ℕ) → header_of (network-in h row) ≡ settled h
-header-in h row = rw (network-size h row) (unfold network-in in refl)
+header_in : (h : Header) (row : List ℕ) → header_of (network_in h row) ≡ settled h
+header_in h row = rw (network_size h row) (unfold network_in in refl)
 
 -- the answer by the fault
 
-module _ (h : Header) (row : List ℕ) (fit : InRange row) {f : Fault} (is : f ≡ row-fault (settled h) row) where
-  shown-check : shown (unless-fault f (network (network-in h row))) ≡ checked h row
-  unfolding checked row-check
-  shown-check = rw is (ap shown (sym (row-answer-check h row fit)))
+module _ (h : Header) (row : List ℕ) (fit : InRange row) {f : Fault} (is : f ≡ row_fault (settled h) row) where
+  shown_check : shown (unless_fault f (network (network_in h row))) ≡ checked h row
+  unfolding checked row_check
+  shown_check = rw is (ap shown (sym (row_answer_check h row fit)))
 
-  pub checked-network : f ≡ None → Read.Network (settled h) ≡ checked h row
-  unfolding shown unless-fault
-  checked-network e = sym (ap {B = Read} Read.Network (header-in h row)) ∙ (rw e at shown-check)
+  pub checked_network : f ≡ None → Read.Network (settled h) ≡ checked h row
+  unfolding shown unless_fault
+  checked_network e = sym (ap {B = Read} Read.Network (header_in h row)) ∙ (rw e at shown_check)
 
   pub checked_refused : {r : Refusal} → f ≡ Found r → Read.Refused r ≡ checked h row
-  unfolding shown unless-fault
-  checked_refused e = rw e at shown-check
+  unfolding shown unless_fault
+  checked_refused e = rw e at shown_check
 
 -- M and D are held at their ceilings: doing so once more changes nothing
 
 module _ (h : Header) (row : List ℕ) where
-  capacity-twice : capacity-place (cells (capacity-place h.capacity)) ≡ capacity-place h.capacity
-  capacity-twice = omega arith
+  capacity_twice : capacity_place (cells (capacity_place h.capacity)) ≡ capacity_place h.capacity
+  capacity_twice = omega arith
 
-  hop-twice : delay-place (ticks (delay-place h.hop)) ≡ delay-place h.hop
-  hop-twice = omega arith
+  hop_twice : delay_place (ticks (delay_place h.hop)) ≡ delay_place h.hop
+  hop_twice = omega arith
 
-  network-settled : network-in (settled h) row ≡ network-in h row
-  unfolding network-in
-  network-settled = rw (capacity-twice, hop-twice)
+  network_settled : network_in (settled h) row ≡ network_in h row
+  unfolding network_in
+  network_settled = rw (capacity_twice, hop_twice)
 
-  lines-settled : row-lines (settled h) row ≡ row-lines h row
-  unfolding row-lines
-  lines-settled = rw (capacity-twice, hop-twice)
+  lines_settled : row_lines (settled h) row ≡ row_lines h row
+  unfolding row_lines
+  lines_settled = rw (capacity_twice, hop_twice)
 
-  answer-settled : row-answer (settled h) row ≡ row-answer h row
-  unfolding row-answer spell
-  answer-settled =
-      ap (λ (ls : List (List ℕ)). cond (too_short h.gates row) (refused no_room) (reading (join ls))) lines-settled
+  answer_settled : row_answer (settled h) row ≡ row_answer h row
+  unfolding row_answer spell
+  answer_settled =
+      ap (λ (ls : List (List ℕ)). cond (too_short h.gates row) (refused no_room) (reading (join ls))) lines_settled
 
 -- what is known after `check`
 
@@ -75,57 +75,57 @@ module _ (h : Header) (row : List ℕ) where
 -- is the one that was handed over.
 pub record Known (h k : Header) (row : List ℕ) : Type 0 where
   pub holds : Holds k row
-  pub same : network-in k row ≡ network-in h row
+  pub same : network_in k row ≡ network_in h row
   pub gates : k.gates ≡ h.gates
-  pub answered : row-answer h row ≡ network (network-in k row)
-  pub lines : row-lines k row ≡ row-lines h row
+  pub answered : row_answer h row ≡ network (network_in k row)
+  pub lines : row_lines k row ≡ row_lines h row
 
-settled-holds : (h : Header) (row : List ℕ) → (n : Network) → row-answer h row ≡ network n → Answered h row n → Holds (settled h) row
-settled-holds h row n e a =
-    let same : n ≡ network-in (settled h) row = a.same ∙ sym (network-settled h row) in
+settled_holds : (h : Header) (row : List ℕ) → (n : Network) → row_answer h row ≡ network n → Answered h row n → Holds (settled h) row
+settled_holds h row n e a =
+    let same : n ≡ network_in (settled h) row = a.same ∙ sym (network_settled h row) in
     record {
       capacity = omega arith;
       hop = omega arith;
       long = a.long;
       few = a.few;
-      answered = answer-settled h row ∙ e ∙ ap network same;
-      formed = rw same at (accepted-well-formed (spell h row) n a.read);
-      within = rw same at (accepted-within-ceilings (spell h row) n a.read);
-      light = rw same at (accepted-not-heavy (spell h row) n a.read);
+      answered = answer_settled h row ∙ e ∙ ap network same;
+      formed = rw same at (accepted_well_formed (spell h row) n a.read);
+      within = rw same at (accepted_within_ceilings (spell h row) n a.read);
+      light = rw same at (accepted_not_heavy (spell h row) n a.read);
     }
 
-settled-known : (h : Header) (row : List ℕ) → InRange row → (n : Network) → row-answer h row ≡ network n → Known h (settled h) row
-settled-known h row fit n e =
-    let a = row-answered h row fit n e in
+settled_known : (h : Header) (row : List ℕ) → InRange row → (n : Network) → row_answer h row ≡ network n → Known h (settled h) row
+settled_known h row fit n e =
+    let a = row_answered h row fit n e in
     record {
-      holds = settled-holds h row n e a;
-      same = network-settled h row;
+      holds = settled_holds h row n e a;
+      same = network_settled h row;
       gates = refl;
-      answered = e ∙ ap network (a.same ∙ sym (network-settled h row));
-      lines = lines-settled h row;
+      answered = e ∙ ap network (a.same ∙ sym (network_settled h row));
+      lines = lines_settled h row;
     }
 
-shown-network : (r : Reading) {k : Header} → Read.Network k ≡ shown r → (n : Network) × (r ≡ network n) × (k ≡ header_of n)
+shown_network : (r : Reading) {k : Header} → Read.Network k ≡ shown r → (n : Network) × (r ≡ network n) × (k ≡ header_of n)
 unfolding shown
-shown-network (refused f) e = never cc
-shown-network (network n) e = (n, refl, cc)
+shown_network (refused f) e = never cc
+shown_network (network n) e = (n, refl, cc)
 
-pub check-network : (h : Header) (row : List ℕ) → InRange row → {r : Read} {k : Header}
+pub check_network : (h : Header) (row : List ℕ) → InRange row → {r : Read} {k : Header}
     → r ≡ checked h row → r ≡ Read.Network k → Known h k row
 unfolding checked
-check-network h row fit p q =
-    let (n, e, is) = shown-network (row-answer h row) (sym q ∙ p) in
-    let settles = is ∙ ap header_of (row-answered h row fit n e).same ∙ header-in h row in
-    rw settles (settled-known h row fit n e)
+check_network h row fit p q =
+    let (n, e, is) = shown_network (row_answer h row) (sym q ∙ p) in
+    let settles = is ∙ ap header_of (row_answered h row fit n e).same ∙ header_in h row in
+    rw settles (settled_known h row fit n e)
 
-shown-refused : (r : Reading) {f : Refusal} → Read.Refused f ≡ shown r → r ≡ refused f
+shown_refused : (r : Reading) {f : Refusal} → Read.Refused f ≡ shown r → r ≡ refused f
 unfolding shown
-shown-refused (refused f) e = cc
-shown-refused (network n) e = never cc
+shown_refused (refused f) e = cc
+shown_refused (network n) e = never cc
 
 -- the other way out of a `let .. else` on the answer; the tags of the variants: Network 0, Refused 1
-pub check-else : (h : Header) (row : List ℕ) (r : Read) → r ≡ checked h row → OneOf (1 ∷ []) (tag_of the_type r)
-    → row-answer h row ≡ refused (refusal-in r)
+pub check_else : (h : Header) (row : List ℕ) (r : Read) → r ≡ checked h row → OneOf (1 ∷ []) (tag_of the_type r)
+    → row_answer h row ≡ refused (refusal_in r)
 unfolding checked
-check-else h row (Read.Network k) p other = absurd (miss (1 ∷ []) 0 tt other)
-check-else h row (Read.Refused f) p other = shown-refused (row-answer h row) p
+check_else h row (Read.Network k) p other = absurd (miss (1 ∷ []) 0 tt other)
+check_else h row (Read.Refused f) p other = shown_refused (row_answer h row) p

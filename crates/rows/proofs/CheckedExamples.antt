@@ -3,7 +3,7 @@ use Prim.Native.Nat.{ℕ}
 use mathlib.Core.Path.{◌≡◌, refl}
 use mathlib.Core.List.{List, [], ◌∷◌}
 use Rattle.units.specs.Units.{cells, ticks}
-use Rattle.frames.specs.Refusal.{at-line, no_room}
+use Rattle.frames.specs.Refusal.{at_line, no_room}
 use Rattle.rows.specs.declared.Header.{Header}
 use Rattle.rows.specs.declared.Read.{Read}
 use Rattle.rows.specs.declared.Read.TheVariants as Read
@@ -11,11 +11,11 @@ use Rattle.rows.specs.Read.{checked}
 
 -- the row of network A; the count of gate 2 and the fan-in of gate 3 are left open, and unused places hold 7
 row : ℕ → ℕ → List ℕ
-row third of-3 =
+row third of_3 =
     1 ∷ 1 ∷ 0 ∷ 7 ∷ 7 ∷ 7 ∷ 7 ∷ 7 ∷ 7 ∷ 7 ∷ 7
     ∷ 1 ∷ 2 ∷ 0 ∷ 7 ∷ 7 ∷ 7 ∷ 7 ∷ 7 ∷ 7 ∷ 7 ∷ 7
     ∷ 1 ∷ 3 ∷ third ∷ 0 ∷ 1 ∷ 7 ∷ 7 ∷ 7 ∷ 7 ∷ 7 ∷ 7
-    ∷ 1 ∷ 1 ∷ 1 ∷ of-3 ∷ 7 ∷ 7 ∷ 7 ∷ 7 ∷ 7 ∷ 7 ∷ 7
+    ∷ 1 ∷ 1 ∷ 1 ∷ of_3 ∷ 7 ∷ 7 ∷ 7 ∷ 7 ∷ 7 ∷ 7 ∷ 7
     ∷ 1 ∷ 2 ∷ 2 ∷ 2 ∷ 3 ∷ 7 ∷ 7 ∷ 7 ∷ 7 ∷ 7 ∷ 7
     ∷ []
 
@@ -25,32 +25,32 @@ header capacity gates = record { capacity = cells capacity; hop = ticks 4; gates
 
 A : ℕ → ℕ → ℕ → ℕ → Read
 unfolding checked row header
-A capacity gates third of-3 = checked (header capacity gates) (row third of-3)
+A capacity gates third of_3 = checked (header capacity gates) (row third of_3)
 
 record Answers : Type 0 where
-  network-A : A 3 5 2 1 ≡ Read.Network (header 3 5)
-  first-four : A 3 4 2 1 ≡ Read.Network (header 3 4)
-  capacity-above : A 4_294_967_296 5 2 1 ≡ Read.Network (header 4_294_967_295 5)
-  no-gates : A 3 0 2 1 ≡ Read.Refused (at-line 8 2)
-  row-too-short : A 3 6 2 1 ≡ Read.Refused no_room
-  nine-fan-ins : A 3 5 9 1 ≡ Read.Refused (at-line 4 4)
-  most-fan-ins : A 3 5 65_535 1 ≡ Read.Refused (at-line 4 4)
-  own-fan-in : A 3 5 2 3 ≡ Read.Refused (at-line 6 5)
-  heavy : A 0 5 2 1 ≡ Read.Refused (at-line 9 2)
-  nine-before-heavy : A 0 5 9 1 ≡ Read.Refused (at-line 4 4)
+  network_A : A 3 5 2 1 ≡ Read.Network (header 3 5)
+  first_four : A 3 4 2 1 ≡ Read.Network (header 3 4)
+  capacity_above : A 4_294_967_296 5 2 1 ≡ Read.Network (header 4_294_967_295 5)
+  no_gates : A 3 0 2 1 ≡ Read.Refused (at_line 8 2)
+  row_too_short : A 3 6 2 1 ≡ Read.Refused no_room
+  nine_fan_ins : A 3 5 9 1 ≡ Read.Refused (at_line 4 4)
+  most_fan_ins : A 3 5 65_535 1 ≡ Read.Refused (at_line 4 4)
+  own_fan_in : A 3 5 2 3 ≡ Read.Refused (at_line 6 5)
+  heavy : A 0 5 2 1 ≡ Read.Refused (at_line 9 2)
+  nine_before_heavy : A 0 5 9 1 ≡ Read.Refused (at_line 4 4)
 
 answers : Answers
 unfolding A
 answers =
     record {
-      network-A = refl;
-      first-four = refl;
-      capacity-above = refl;
-      no-gates = refl;
-      row-too-short = refl;
-      nine-fan-ins = refl;
-      most-fan-ins = refl;
-      own-fan-in = refl;
+      network_A = refl;
+      first_four = refl;
+      capacity_above = refl;
+      no_gates = refl;
+      row_too_short = refl;
+      nine_fan_ins = refl;
+      most_fan_ins = refl;
+      own_fan_in = refl;
       heavy = refl;
-      nine-before-heavy = refl;
+      nine_before_heavy = refl;
     }

@@ -13,10 +13,10 @@ use Rattle.frames.proofs.Tests.{never}
 use Rattle.texts.specs.Reading.{Reading, refused, network, reading}
 use Rattle.texts.specs.Says.{Reads}
 use Rattle.texts.proofs.Exactly.{Some, said, read, exactly}
-use Rattle.texts.proofs.Table.{reading-exactly}
+use Rattle.texts.proofs.Table.{reading_exactly}
 use Rattle.rows.specs.Row.{places, too_short}
-use Rattle.rows.specs.Read.{in-room, answer}
-use Rattle.rows.specs.Says.{Short, SaysRoom, of-text, short_row, ReadsRoom}
+use Rattle.rows.specs.Read.{in_room, answer}
+use Rattle.rows.specs.Says.{Short, SaysRoom, of_text, short_row, ReadsRoom}
 use Rattle.rows.specs.Exactly.{AnswerExactly}
 
 -- a row is too short by the test exactly when it is
@@ -26,32 +26,32 @@ module _ (gates : ℕ) (row : List ℕ) where
   unfolding too_short
   test_short t = ltb-true (length row) (places * gates) t
 
-  short-test : Short gates row → too_short gates row ≡ true
+  short_test : Short gates row → too_short gates row ≡ true
   unfolding too_short
-  short-test s = lt-ltb (length row) (places * gates) s
+  short_test s = lt-ltb (length row) (places * gates) s
 
 -- reading with a row lent
 
-room-refused : (text row : List ℕ) (f : Refusal) → reading text ≡ refused f → answer text row ≡ refused f
-unfolding answer in-room
-room-refused text row f h = rw h
+room_refused : (text row : List ℕ) (f : Refusal) → reading text ≡ refused f → answer text row ≡ refused f
+unfolding answer in_room
+room_refused text row f h = rw h
 
-room-network :
+room_network :
     (text row : List ℕ) (n : Network) →
     reading text ≡ network n → answer text row ≡ cond (too_short (size n) row) (refused no_room) (network n)
-unfolding answer in-room
-room-network text row n h = rw h
+unfolding answer in_room
+room_network text row n h = rw h
 
 module _ (text row : List ℕ) where
   refused_says : (f : Refusal) → SaysRoom text row f → answer text row ≡ refused f
-  refused_says f (of-text s) = room-refused text row f (((reading-exactly text).refusal f).1 s)
+  refused_says f (of_text s) = room_refused text row f (((reading_exactly text).refusal f).1 s)
   refused_says _ (short_row {n = n} r s) =
-      room-network text row n (((reading-exactly text).whole n).1 r)
-      ∙ ap (λ t. cond t (refused no_room) (network n)) (short-test (size n) row s)
+      room_network text row n (((reading_exactly text).whole n).1 r)
+      ∙ ap (λ t. cond t (refused no_room) (network n)) (short_test (size n) row s)
 
-  network-reads : (n : Network) → ReadsRoom text row n → answer text row ≡ network n
-  network-reads n r =
-      room-network text row n (((reading-exactly text).whole n).1 r.reads) ∙ go (too_short (size n) row) refl
+  network_reads : (n : Network) → ReadsRoom text row n → answer text row ≡ network n
+  network_reads n r =
+      room_network text row n (((reading_exactly text).whole n).1 r.reads) ∙ go (too_short (size n) row) refl
     where
       go : (t : Bool) → too_short (size n) row ≡ t → cond t (refused no_room) (network n) ≡ network n
       go true t = absurd (r.room (test_short (size n) row t))
@@ -59,13 +59,13 @@ module _ (text row : List ℕ) where
 
   enough : (n : Network) → Reads text n → (t : Bool) → too_short (size n) row ≡ t → Some (SaysRoom text row) (ReadsRoom text row)
   enough n r true t = said (short_row r (test_short (size n) row t))
-  enough n r false t = read (record { reads = r; room = λ s. let e = short-test (size n) row s in never cc })
+  enough n r false t = read (record { reads = r; room = λ s. let e = short_test (size n) row s in never cc })
 
-  says-or-reads : (r : Reading) → reading text ≡ r → Some (SaysRoom text row) (ReadsRoom text row)
-  says-or-reads (refused f) e = said (of-text (((reading-exactly text).refusal f).0 e))
-  says-or-reads (network n) e = enough n (((reading-exactly text).whole n).0 e) (too_short (size n) row) refl
+  says_or_reads : (r : Reading) → reading text ≡ r → Some (SaysRoom text row) (ReadsRoom text row)
+  says_or_reads (refused f) e = said (of_text (((reading_exactly text).refusal f).0 e))
+  says_or_reads (network n) e = enough n (((reading_exactly text).whole n).0 e) (too_short (size n) row) refl
 
-pub answer-exactly : AnswerExactly
-answer-exactly text row =
-    exactly (SaysRoom text row) (ReadsRoom text row) (answer text row) (refused_says text row) (network-reads text row)
-    (says-or-reads text row (reading text) refl)
+pub answer_exactly : AnswerExactly
+answer_exactly text row =
+    exactly (SaysRoom text row) (ReadsRoom text row) (answer text row) (refused_says text row) (network_reads text row)
+    (says_or_reads text row (reading text) refl)

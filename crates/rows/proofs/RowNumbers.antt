@@ -7,18 +7,18 @@ use mathlib.Core.List.{List, [], ◌∷◌}
 use mathlib.Core.Option.{Option}
 use lib.Dec.{ltb, eqb}
 use Rattle.model.specs.Basics.{◌∈◌, member}
-use Rattle.model.proofs.Lists.{member-true}
+use Rattle.model.proofs.Lists.{member_true}
 use Rattle.frames.specs.declared.Refusal.{Refusal}
-use Rattle.frames.specs.Refusal.{at-line}
+use Rattle.frames.specs.Refusal.{at_line}
 use Rattle.frames.proofs.Tests.{never}
 use Rattle.texts.specs.Reading.{refused, network}
 use Rattle.rows.specs.declared.Header.{Header}
 use Rattle.rows.specs.declared.Fault.{Fault}
 use Rattle.rows.specs.declared.Fault.TheVariants.{None, Found}
-use Rattle.rows.specs.Row.{too_short, weight-in, count-in, fanins-in, network-in}
+use Rattle.rows.specs.Row.{too_short, weight_in, count_in, fanins_in, network_in}
 use Rattle.rows.specs.Exactly.{RowNumbers}
-use Rattle.rows.specs.steps.RowCheck.{settled, fault-if, told, first_of, line-of-gate, too_long, gate-fault, first-fault, heavy-fault, first-heavy-fault, text-fault, row-fault, unless-fault, row-check}
-use Rattle.rows.proofs.RowCheck.{GateNumber, right, four, five, six, gate-given, row-answer-check}
+use Rattle.rows.specs.steps.RowCheck.{settled, fault_if, told, first_of, line_of_gate, too_long, gate_fault, first_fault, heavy_fault, first_heavy_fault, text_fault, row_fault, unless_fault, row_check}
+use Rattle.rows.proofs.RowCheck.{GateNumber, right, four, five, six, gate_given, row_answer_check}
 
 abbrev numbers : List ℕ
 numbers = 1 ∷ 4 ∷ 5 ∷ 6 ∷ 8 ∷ 9 ∷ 10 ∷ []
@@ -31,52 +31,52 @@ data RowFault : Fault → Type 0 where
   nothing : RowFault None
   found : {f : Refusal} → RowRefusal f → RowFault (Found f)
 
-one : (k line : ℕ) → member k numbers ≡ true → RowFault (Found (at-line k line))
-one k line listed = found (member-true k numbers listed, refl)
+one : (k line : ℕ) → member k numbers ≡ true → RowFault (Found (at_line k line))
+one k line listed = found (member_true k numbers listed, refl)
 
-by-test : (test : Bool) (k line : ℕ) → member k numbers ≡ true → RowFault (fault-if test (at-line k line))
-unfolding fault-if
-by-test true k line listed = one k line listed
-by-test false k line listed = nothing
+by_test : (test : Bool) (k line : ℕ) → member k numbers ≡ true → RowFault (fault_if test (at_line k line))
+unfolding fault_if
+by_test true k line listed = one k line listed
+by_test false k line listed = nothing
 
 by_first : {f g : Fault} → RowFault f → RowFault g → RowFault (first_of f g)
 unfolding first_of
 by_first nothing later = later
 by_first (found of) later = found of
 
-of-gate : (row : List ℕ) (v : ℕ) → RowFault (gate-fault row v)
-unfolding gate-fault told member
-of-gate row v = by (gate-given v (count-in row v) (fanins-in row v))
+of_gate : (row : List ℕ) (v : ℕ) → RowFault (gate_fault row v)
+unfolding gate_fault told member
+of_gate row v = by (gate_given v (count_in row v) (fanins_in row v))
   where
-    by : {o : Option ℕ} → GateNumber o → RowFault (told o (line-of-gate v))
+    by : {o : Option ℕ} → GateNumber o → RowFault (told o (line_of_gate v))
     by right = nothing
-    by four = one 4 (line-of-gate v) refl
-    by five = one 5 (line-of-gate v) refl
-    by six = one 6 (line-of-gate v) refl
+    by four = one 4 (line_of_gate v) refl
+    by five = one 5 (line_of_gate v) refl
+    by six = one 6 (line_of_gate v) refl
 
-of-gates : (row : List ℕ) (v k : ℕ) → RowFault (first-fault row v k)
-unfolding first-fault
-of-gates row v zero = nothing
-of-gates row v (suc k) = by_first (of-gate row v) (of-gates row (suc v) k)
+of_gates : (row : List ℕ) (v k : ℕ) → RowFault (first_fault row v k)
+unfolding first_fault
+of_gates row v zero = nothing
+of_gates row v (suc k) = by_first (of_gate row v) (of_gates row (suc v) k)
 
-of-weights : (capacity : ℕ) (row : List ℕ) (v k : ℕ) → RowFault (first-heavy-fault capacity row v k)
-unfolding first-heavy-fault heavy-fault member
-of-weights capacity row v zero = nothing
-of-weights capacity row v (suc k) =
-    by_first (by-test (ltb capacity (weight-in row v)) 9 (line-of-gate v) refl) (of-weights capacity row (suc v) k)
+of_weights : (capacity : ℕ) (row : List ℕ) (v k : ℕ) → RowFault (first_heavy_fault capacity row v k)
+unfolding first_heavy_fault heavy_fault member
+of_weights capacity row v zero = nothing
+of_weights capacity row v (suc k) =
+    by_first (by_test (ltb capacity (weight_in row v)) 9 (line_of_gate v) refl) (of_weights capacity row (suc v) k)
 
-of_row : (h : Header) (row : List ℕ) → RowFault (row-fault h row)
-unfolding row-fault text-fault member
+of_row : (h : Header) (row : List ℕ) → RowFault (row_fault h row)
+unfolding row_fault text_fault member
 of_row h row =
-    by_first (by-test (too_short h.gates row) 10 0 refl)
-    (by_first (by-test (too_long h.gates row) 1 0 refl)
-    (by_first (of-gates row 0 h.gates)
-    (by_first (by-test (eqb h.gates 0) 8 (line-of-gate 0) refl) (of-weights h.capacity.0 row 0 h.gates))))
+    by_first (by_test (too_short h.gates row) 10 0 refl)
+    (by_first (by_test (too_long h.gates row) 1 0 refl)
+    (by_first (of_gates row 0 h.gates)
+    (by_first (by_test (eqb h.gates 0) 8 (line_of_gate 0) refl) (of_weights h.capacity.0 row 0 h.gates))))
 
-pub row-numbers : RowNumbers
-unfolding row-check unless-fault
-row-numbers h row fit f e = by (of_row (settled h) row) (sym (row-answer-check h row fit) ∙ e)
+pub row_numbers : RowNumbers
+unfolding row_check unless_fault
+row_numbers h row fit f e = by (of_row (settled h) row) (sym (row_answer_check h row fit) ∙ e)
   where
-    by : {g : Fault} → RowFault g → unless-fault g (network (network-in h row)) ≡ refused f → RowRefusal f
+    by : {g : Fault} → RowFault g → unless_fault g (network (network_in h row)) ≡ refused f → RowRefusal f
     by nothing e = never cc
     by (found {f = g} of) e = let same : g ≡ f = cc in rw (← same) of

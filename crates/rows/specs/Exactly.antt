@@ -5,7 +5,7 @@ use Rattle.frames.specs.declared.Refusal.{Refusal}
 use Rattle.texts.specs.Reading.{refused}
 use Rattle.texts.specs.Exactly.{Exactly}
 use Rattle.rows.specs.declared.Header.{Header}
-use Rattle.rows.specs.Spelling.{row-answer}
+use Rattle.rows.specs.Spelling.{row_answer}
 use Rattle.rows.specs.Read.{answer}
 use Rattle.rows.specs.Says.{SaysRoom, ReadsRoom}
 
@@ -17,5 +17,5 @@ AnswerExactly = (text row : List ℕ) → Exactly (SaysRoom text row) (ReadsRoom
 -- never refused by 3, by 7 or by 21 to 24, and no refusal of it points at a column.
 abbrev pub RowNumbers : Type 0
 RowNumbers =
-    (h : Header) (row : List ℕ) → ((i : ℕ) → get_or row i 0 < 65_536) → (f : Refusal) → row-answer h row ≡ refused f
+    (h : Header) (row : List ℕ) → ((i : ℕ) → get_or row i 0 < 65_536) → (f : Refusal) → row_answer h row ≡ refused f
     → (f.number ∈ (1 ∷ 4 ∷ 5 ∷ 6 ∷ 8 ∷ 9 ∷ 10 ∷ [])) × (f.column ≡ 0)

@@ -8,7 +8,7 @@ use Rattle.rows.specs.declared.Header.{Header}
 use Rattle.rows.specs.declared.Read.{Read}
 use Rattle.rows.specs.declared.Read.TheVariants as Read
 use Rattle.rows.specs.Row.{too_short, header_of, fill}
-use Rattle.rows.specs.Spelling.{row-answer}
+use Rattle.rows.specs.Spelling.{row_answer}
 
 -- a network's header, or the refusal
 unfoldable pub shown : Reading → Read
@@ -18,23 +18,23 @@ shown (network n) = Read.Network (header_of n)
 
 -- What `check` answers.
 unfoldable pub checked : Header → List ℕ → Read
-unfolding shown row-answer
-checked h row = shown (row-answer h row)
+unfolding shown row_answer
+checked h row = shown (row_answer h row)
 
 -- The refusal of an answer that refuses. It is asked of no other; of one that is a network it is 10.
-abbrev pub refusal-in : Read → Refusal
-refusal-in (Read.Network h) = no_room
-refusal-in (Read.Refused f) = f
+abbrev pub refusal_in : Read → Refusal
+refusal_in (Read.Network h) = no_room
+refusal_in (Read.Refused f) = f
 
 -- [O5] what reading a text answers with this row lent: 10 comes last
-unfoldable pub in-room : List ℕ → Reading → Reading
+unfoldable pub in_room : List ℕ → Reading → Reading
 unfolding too_short size
-in-room row (refused f) = refused f
-in-room row (network n) = cond (too_short (size n) row) (refused no_room) (network n)
+in_room row (refused f) = refused f
+in_room row (network n) = cond (too_short (size n) row) (refused no_room) (network n)
 
 unfoldable pub answer : List ℕ → List ℕ → Reading
-unfolding in-room reading
-answer text row = in-room row (reading text)
+unfolding in_room reading
+answer text row = in_room row (reading text)
 
 -- [R4] The row afterwards: filled where a network is answered, as it was on a refusal.
 unfoldable pub filled : Reading → List ℕ → List ℕ

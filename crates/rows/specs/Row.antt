@@ -3,12 +3,12 @@
 use Rattle.std.specs.Prelude.{ℕ, suc, ◌+◌, ◌*◌, ◌-◌, min, Bool, cond, ◌&&◌, List, [], ◌∷◌, ◌++◌, map, length, get_or, set, take, drop, replicate, leb, ltb}
 use Rattle.std.proofs.lemmas.List.Edits.{sets}
 use Rattle.model.specs.Basics.{upto}
-use Rattle.model.specs.Ceilings.{most-fanins}
+use Rattle.model.specs.Ceilings.{most_fanins}
 use Rattle.model.specs.Network.{Gate, Network, size}
 use Rattle.units.specs.declared.Cells.{Cells}
 use Rattle.units.specs.declared.Ticks.{Ticks}
 use Rattle.units.specs.declared.FanInCount.{FanInCount}
-use Rattle.units.specs.Units.{cells, ticks, weight-place, capacity-place, delay-place, count-place}
+use Rattle.units.specs.Units.{cells, ticks, weight_place, capacity_place, delay_place, count_place}
 use Rattle.rows.specs.declared.Header.{Header}
 
 -- [R1] the places of a block: weight, delay, fan-in count, eight fan-ins
@@ -30,35 +30,35 @@ block row v = cond (has_block row v) (take places (drop (places * v) row)) []
 
 -- What a block says of its gate; where there is no block, 0 and no fan-ins. A count above eight has eight fan-ins, for which
 -- there are places.
-unfoldable pub weight-in : List ℕ → ℕ → ℕ
+unfoldable pub weight_in : List ℕ → ℕ → ℕ
 unfolding block
-weight-in row v = get_or (block row v) 0 0
+weight_in row v = get_or (block row v) 0 0
 
-unfoldable pub delay-in : List ℕ → ℕ → ℕ
+unfoldable pub delay_in : List ℕ → ℕ → ℕ
 unfolding block
-delay-in row v = get_or (block row v) 1 0
+delay_in row v = get_or (block row v) 1 0
 
-unfoldable pub count-in : List ℕ → ℕ → ℕ
+unfoldable pub count_in : List ℕ → ℕ → ℕ
 unfolding block
-count-in row v = get_or (block row v) 2 0
+count_in row v = get_or (block row v) 2 0
 
-unfoldable pub fanins-in : List ℕ → ℕ → List ℕ
-unfolding block count-in
-fanins-in row v = take (min (count-in row v) most-fanins) (drop 3 (block row v))
+unfoldable pub fanins_in : List ℕ → ℕ → List ℕ
+unfolding block count_in
+fanins_in row v = take (min (count_in row v) most_fanins) (drop 3 (block row v))
 
 -- the gate that stands in the row at v
-unfoldable pub gate-in : List ℕ → ℕ → Gate
-unfolding weight-in delay-in fanins-in
-gate-in row v = record { weight = weight-in row v; delay = delay-in row v; fanins = fanins-in row v }
+unfoldable pub gate_in : List ℕ → ℕ → Gate
+unfolding weight_in delay_in fanins_in
+gate_in row v = record { weight = weight_in row v; delay = delay_in row v; fanins = fanins_in row v }
 
 -- [R1] The network that stands in the row. A capacity or a hop delay above its ceiling counts as the ceiling.
-unfoldable pub network-in : Header → List ℕ → Network
-unfolding upto gate-in
-network-in h row =
+unfoldable pub network_in : Header → List ℕ → Network
+unfolding upto gate_in
+network_in h row =
     record {
-      capacity = capacity-place h.capacity;
-      hop = delay-place h.hop;
-      gates = map (gate-in row) (upto h.gates);
+      capacity = capacity_place h.capacity;
+      hop = delay_place h.hop;
+      gates = map (gate_in row) (upto h.gates);
     }
 
 -- the header of a network
@@ -67,7 +67,7 @@ header_of n = record { capacity = cells n.capacity; hop = ticks n.hop; gates = s
 
 -- [R1] The block of a gate: unused fan-in places are 0.
 unfoldable pub block_of : Gate → List ℕ
-block_of g = g.weight ∷ g.delay ∷ length g.fanins ∷ g.fanins ++ replicate (most-fanins - length g.fanins) 0
+block_of g = g.weight ∷ g.delay ∷ length g.fanins ∷ g.fanins ++ replicate (most_fanins - length g.fanins) 0
 
 unfoldable pub blocks : List Gate → List ℕ
 unfolding block_of
@@ -81,15 +81,15 @@ fill gs row = blocks gs ++ drop (places * length gs) row
 
 -- The row with the weight, the delay and the count of gate v put into its block, and with no fan-in yet; a row without the
 -- block stays as it is.
-unfoldable pub gate-put : ℕ → Cells → Ticks → FanInCount → List ℕ → List ℕ
+unfoldable pub gate_put : ℕ → Cells → Ticks → FanInCount → List ℕ → List ℕ
 unfolding has_block
-gate-put v weight delay count row =
+gate_put v weight delay count row =
     cond (has_block row v)
-    (sets row (places * v) (weight-place weight ∷ delay-place delay ∷ count-place count ∷ replicate most-fanins 0))
+    (sets row (places * v) (weight_place weight ∷ delay_place delay ∷ count_place count ∷ replicate most_fanins 0))
     row
 
 -- The row with the i-th fan-in of gate v put into its block; a row without the block, and one without a place for an i-th
 -- fan-in, stays as it is.
-unfoldable pub fanin-put : ℕ → ℕ → ℕ → List ℕ → List ℕ
+unfoldable pub fanin_put : ℕ → ℕ → ℕ → List ℕ → List ℕ
 unfolding has_block
-fanin-put v i x row = cond (has_block row v && ltb i most-fanins) (set row (places * v + (3 + i)) x) row
+fanin_put v i x row = cond (has_block row v && ltb i most_fanins) (set row (places * v + (3 + i)) x) row

@@ -12,7 +12,7 @@ Short gates row = length row < places * gates
 
 -- The table says a refusal of the text, with this row lent.
 pub data SaysRoom (text row : List ℕ) : Refusal → Type 0 where
-  of-text : {f : Refusal} → Says text f → SaysRoom text row f
+  of_text : {f : Refusal} → Says text f → SaysRoom text row f
   -- [O5] only of a text that is a network's, at line 0
   short_row : {n : Network} → Reads text n → Short (size n) row → SaysRoom text row no_room
 

@@ -2,20 +2,20 @@
 // block each number stands; nothing above them does. `check` says what a header and a row handed over answer.
 ghost use Rattle.std.specs.Prelude.{◌≡◌, ◌&&◌, ◌+◌, ◌^◌, ◌<◌, get_or, leb, ltb};
 ghost use Rattle.model.specs.Network.{empty};
-ghost use Rattle.frames.specs.Refusal.{at-line};
-ghost use Rattle.frames.specs.Table.{rising-from};
+ghost use Rattle.frames.specs.Refusal.{at_line};
+ghost use Rattle.frames.specs.Table.{rising_from};
 ghost use Rattle.rows.specs.declared.Fault.TheVariants.{Found};
-ghost use Rattle.rows.specs.Row.{places, too_short, block, weight-in, delay-in, count-in, fanins-in, gate-put, fanin-put};
-ghost use Rattle.rows.specs.Read.{checked, refusal-in};
+ghost use Rattle.rows.specs.Row.{places, too_short, block, weight_in, delay_in, count_in, fanins_in, gate_put, fanin_put};
+ghost use Rattle.rows.specs.Read.{checked, refusal_in};
 ghost use Rattle.rows.specs.steps.RowCheck.{
   settled,
-  gate-length,
+  gate_length,
   too_long,
-  gate-fault,
-  first-fault,
-  heavy-fault,
-  first-heavy-fault,
-  row-fault,
+  gate_fault,
+  first_fault,
+  heavy_fault,
+  first_heavy_fault,
+  row_fault,
 };
 
 use frames::{
@@ -42,7 +42,7 @@ pub enum Read {
 impl Read {
     // The refusal of an answer that refuses; it is asked of no other.
     pub fn refusal(self) -> Refusal
-        ensures { result ≡ refusal-in self }
+        ensures { result ≡ refusal_in self }
     {
         let Read::Refused(refusal) = self else {
             return Refusal::no_room();
@@ -87,28 +87,28 @@ fn place(row: &[u16], v: usize, k: usize) -> u16
 
 // The weight of gate v; 0 where the row has no block for it.
 pub fn weight(row: &[u16], v: usize) -> Cells
-    ensures { result.0 ≡ weight-in row.now v }
+    ensures { result.0 ≡ weight_in row.now v }
 {
     Cells(place(row, v, WEIGHT) as u64)
 }
 
 // The delay of gate v; 0 where the row has no block for it.
 pub fn delay(row: &[u16], v: usize) -> Ticks
-    ensures { result.0 ≡ delay-in row.now v }
+    ensures { result.0 ≡ delay_in row.now v }
 {
     Ticks(place(row, v, DELAY) as u64)
 }
 
 // The fan-in count of gate v, as its place has it; 0 where the row has no block for it.
 fn count(row: &[u16], v: usize) -> usize
-    ensures { result ≡ count-in row.now v }
+    ensures { result ≡ count_in row.now v }
 {
     place(row, v, COUNT) as usize
 }
 
 // The fan-ins of gate v: no more than eight, and none where the row has no block for it.
 pub fn fan_ins(row: &[u16], v: usize) -> &[u16]
-    ensures { result.now ≡ fanins-in row.now v }
+    ensures { result.now ≡ fanins_in row.now v }
 {
     if row.len() / PLACES <= v {
         return &row[..0];
@@ -126,7 +126,7 @@ pub fn fan_ins(row: &[u16], v: usize) -> &[u16]
 
 // Whether gate v is a primary input: it has no fan-ins.
 pub fn is_input(row: &[u16], v: usize) -> bool
-    ensures { result ≡ empty (fanins-in row.now v) }
+    ensures { result ≡ empty (fanins_in row.now v) }
 {
     count(row, v) == 0
 }
@@ -134,7 +134,7 @@ pub fn is_input(row: &[u16], v: usize) -> bool
 // The weight, the delay and the fan-in count of gate v put into its block, with 0 for every fan-in. A row without the block
 // stays as it is.
 pub fn put_gate(row: &mut [u16], v: usize, weight: Cells, delay: Ticks, count: FanInCount)
-    ensures { row.new ≡ gate-put v weight delay count row.old }
+    ensures { row.new ≡ gate_put v weight delay count row.old }
 {
     if row.len() / PLACES <= v {
         return;
@@ -150,7 +150,7 @@ pub fn put_gate(row: &mut [u16], v: usize, weight: Cells, delay: Ticks, count: F
 
 // The i-th fan-in of gate v put into its block. A row without the block stays as it is, and so does a block without a place for it.
 pub fn put_fan_in(row: &mut [u16], v: usize, i: usize, fanin: u16)
-    ensures { row.new ≡ fanin-put v i fanin row.old }
+    ensures { row.new ≡ fanin_put v i fanin row.old }
 {
     if row.len() / PLACES <= v || FanInCount::MOST <= i {
         return;
@@ -179,7 +179,7 @@ enum Fault {
 
 // The bytes of the line of gate v: no more than eight fan-ins are spelled.
 fn gate_length(row: &[u16], v: usize) -> usize
-    ensures { result ≡ gate-length row.now v }
+    ensures { result ≡ gate_length row.now v }
 {
     BARE_GATE + FAN_IN * fan_ins(row, v).len()
 }
@@ -206,7 +206,7 @@ fn in_place(fanin: usize, least: usize, gate: usize) -> bool
 
 // 6: whether all fan-ins of a gate are in place.
 fn rising(fanins: &[u16], gate: usize) -> bool
-    ensures { result ≡ rising-from 0 gate fanins.now }
+    ensures { result ≡ rising_from 0 gate fanins.now }
 {
     let mut least = 0;
     let mut i = 0;
@@ -220,7 +220,7 @@ fn rising(fanins: &[u16], gate: usize) -> bool
 // A refusal at the line of a gate.
 fn fault_at(number: u8, gate: usize) -> Fault
     requires { gate + 2 < 2 ^ 64 }
-    ensures { result ≡ Found (at-line number (gate + 2)) }
+    ensures { result ≡ Found (at_line number (gate + 2)) }
 {
     Fault::Found(Refusal::at_line(number, gate + FIRST_GATE))
 }
@@ -228,7 +228,7 @@ fn fault_at(number: u8, gate: usize) -> Fault
 // 4, 5 and 6 of one gate, at its line.
 fn gate_fault(row: &[u16], gate: usize) -> Fault
     requires { gate + 2 < 2 ^ 64 }
-    ensures { result ≡ gate-fault row.now gate }
+    ensures { result ≡ gate_fault row.now gate }
 {
     let Counted::Made(_) = FanInCount::new(count(row, gate)) else {
         return fault_at(WRONG_LENGTH, gate);
@@ -246,7 +246,7 @@ fn gate_fault(row: &[u16], gate: usize) -> Fault
 // 4, 5 and 6 of the first gate that has one.
 fn first_fault(gates: usize, row: &[u16]) -> Fault
     requires { gates + 2 < 2 ^ 64 }
-    ensures { result ≡ first-fault row.now 0 gates }
+    ensures { result ≡ first_fault row.now 0 gates }
 {
     let mut v = 0;
     while v < gates {
@@ -262,7 +262,7 @@ fn first_fault(gates: usize, row: &[u16]) -> Fault
 // 9 of one gate, at its line.
 fn heavy_fault(gate: usize, weight: Cells, capacity: Cells) -> Fault
     requires { gate + 2 < 2 ^ 64 }
-    ensures { result ≡ heavy-fault gate weight.0 capacity.0 }
+    ensures { result ≡ heavy_fault gate weight.0 capacity.0 }
 {
     if weight.within(capacity) {
         Fault::None
@@ -274,7 +274,7 @@ fn heavy_fault(gate: usize, weight: Cells, capacity: Cells) -> Fault
 // 9 of the first gate that is heavier than M.
 fn first_heavy(header: Header, row: &[u16]) -> Fault
     requires { header.gates + 2 < 2 ^ 64 }
-    ensures { result ≡ first-heavy-fault header.capacity.0 row.now 0 header.gates }
+    ensures { result ≡ first_heavy_fault header.capacity.0 row.now 0 header.gates }
 {
     let capacity = header.capacity;
     let gates = header.gates;
@@ -291,7 +291,7 @@ fn first_heavy(header: Header, row: &[u16]) -> Fault
 
 // The fault that decides: 10, 1, those of the gates, 8, 9.
 fn row_fault(header: Header, row: &[u16]) -> Fault
-    ensures { result ≡ row-fault header row.now }
+    ensures { result ≡ row_fault header row.now }
 {
     let gates = header.gates;
     if too_short(gates, row) {

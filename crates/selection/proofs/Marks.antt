@@ -13,48 +13,48 @@ use lib.ListN.{length, get_or, set, drop, replicate, length-set, length-append, 
 use lib.Seq.{drop-cons, get_or-set_same, get_or-set_other, ext_get_or, set_at}
 use Rattle.model.specs.Basics.{◌∈◌, member, keep, gather, upto, largest}
 use Rattle.model.specs.Drawing.{mark}
-use Rattle.model.proofs.Lists.{true-or-false, not-both, same_or_not, true-member, false-member, in-keep, keep-in, in-upto, keep_append, keep-yes, keep-no}
-use Rattle.model.proofs.Drawn.{length-mark}
-use Rattle.frames.proofs.Made.{length-made, getD-made}
+use Rattle.model.proofs.Lists.{true_or_false, not_both, same_or_not, true_member, false_member, in_keep, keep_in, in_upto, keep_append, keep_yes, keep_no}
+use Rattle.model.proofs.Drawn.{length_mark}
+use Rattle.frames.proofs.Made.{length_made, get_or_made}
 use Rattle.frames.proofs.Puts.{gather_append}
-use Rattle.rows.specs.Row.{fanins-in}
-use Rattle.selection.specs.steps.Marking.{fanins-of, unmarked, largest-label, or-label, outside}
+use Rattle.rows.specs.Row.{fanins_in}
+use Rattle.selection.specs.steps.Marking.{fanins_of, unmarked, largest_label, or_label, outside}
 
 -- marks, a gate at a time
 
-pub mark-next :
+pub mark_next :
     (row xs : List ℕ) (i : ℕ) → i < length xs → mark (set row (get_or xs i 0) 1) (drop (i + 1) xs) ≡ mark row (drop i xs)
 unfolding mark
-mark-next row xs i h = rw (add-one, drop-cons xs i 0)
+mark_next row xs i h = rw (add-one, drop-cons xs i 0)
 
-pub mark-done : (row xs : List ℕ) (i : ℕ) → length xs ≤ i → mark row (drop i xs) ≡ row
+pub mark_done : (row xs : List ℕ) (i : ℕ) → length xs ≤ i → mark row (drop i xs) ≡ row
 unfolding mark
-mark-done row xs i h = rw (drop_of_length-le xs h)
+mark_done row xs i h = rw (drop_of_length-le xs h)
 
-mark-append : (row xs ys : List ℕ) → mark row (xs ++ ys) ≡ mark (mark row xs) ys
+mark_append : (row xs ys : List ℕ) → mark row (xs ++ ys) ≡ mark (mark row xs) ys
 unfolding mark
-mark-append row [] ys = refl
-mark-append row (x ∷ xs) ys = mark-append (set row x 1) xs ys
+mark_append row [] ys = refl
+mark_append row (x ∷ xs) ys = mark_append (set row x 1) xs ys
 
 -- a gate is marked that is in the list or was marked
 
-or-one : (b : Bool) (m : ℕ) → cond b 1 (cond true 1 m) ≡ 1
-or-one true m = refl
-or-one false m = refl
+or_one : (b : Bool) (m : ℕ) → cond b 1 (cond true 1 m) ≡ 1
+or_one true m = refl
+or_one false m = refl
 
-pub mark-at : (row xs : List ℕ) (y : ℕ) → y < length row → get_or (mark row xs) y 0 ≡ cond (member y xs) 1 (get_or row y 0)
+pub mark_at : (row xs : List ℕ) (y : ℕ) → y < length row → get_or (mark row xs) y 0 ≡ cond (member y xs) 1 (get_or row y 0)
 unfolding mark member
-mark-at row [] y h = refl
-mark-at row (x ∷ xs) y h =
-    mark-at (set row x 1) xs y (omega (arith, length-set row x 1))
-    ∙ ⊎_elim (λ (e : y ≡ x). rw (eq-eqb y x e, e, get_or-set_same row x 1 0 (rw e at h)) (or-one (member x xs) 0))
+mark_at row [] y h = refl
+mark_at row (x ∷ xs) y h =
+    mark_at (set row x 1) xs y (omega (arith, length-set row x 1))
+    ∙ ⊎_elim (λ (e : y ≡ x). rw (eq-eqb y x e, e, get_or-set_same row x 1 0 (rw e at h)) (or_one (member x xs) 0))
     (λ (d : y ≡ x → ⊥). rw (ne_eqb y x d, get_or-set_other row x y 1 0 d))
     (same_or_not y x)
 
 -- In a row without marks, marking a list marks its members and no other.
 pub fresh_at : (k : ℕ) (xs : List ℕ) (y : ℕ) → y < k → get_or (mark (replicate k 0) xs) y 0 ≡ cond (member y xs) 1 0
 fresh_at k xs y h =
-    mark-at (replicate k 0) xs y (omega (arith, length-replicate {A = ℕ} k 0))
+    mark_at (replicate k 0) xs y (omega (arith, length-replicate {A = ℕ} k 0))
     ∙ ap (cond (member y xs) 1) (get_or-replicate {A = ℕ} k y 0 0 h)
 
 -- kept gates below k, a gate at a time
@@ -62,150 +62,150 @@ fresh_at k xs y h =
 module _ (f : ℕ → Bool) (k : ℕ) where
   pub keep_one : f k ≡ true → keep f (upto (suc k)) ≡ keep f (upto k) ++ (k ∷ [])
   unfolding upto keep
-  keep_one h = keep_append f (upto k) (k ∷ []) ∙ ap (λ (r : List ℕ). keep f (upto k) ++ r) (keep-yes f k [] h)
+  keep_one h = keep_append f (upto k) (k ∷ []) ∙ ap (λ (r : List ℕ). keep f (upto k) ++ r) (keep_yes f k [] h)
 
-  pub keep-other : f k ≡ false → keep f (upto (suc k)) ≡ keep f (upto k)
+  pub keep_other : f k ≡ false → keep f (upto (suc k)) ≡ keep f (upto k)
   unfolding upto keep
-  keep-other h =
+  keep_other h =
       keep_append f (upto k) (k ∷ [])
-      ∙ ap (λ (r : List ℕ). keep f (upto k) ++ r) (keep-no f k [] h)
+      ∙ ap (λ (r : List ℕ). keep f (upto k) ++ r) (keep_no f k [] h)
       ∙ append-nil (keep f (upto k))
 
 -- tests that agree on a list keep the same of it
-pub keep-agree : (f g : ℕ → Bool) (xs : List ℕ) → ((x : ℕ) → x ∈ xs → f x ≡ g x) → keep f xs ≡ keep g xs
-keep-agree f g [] h = unfold keep in refl
-keep-agree f g (x ∷ xs) h =
-    let rest = keep-agree f g xs (λ y m. h y (Memᴰ.tail m)) in
+pub keep_agree : (f g : ℕ → Bool) (xs : List ℕ) → ((x : ℕ) → x ∈ xs → f x ≡ g x) → keep f xs ≡ keep g xs
+keep_agree f g [] h = unfold keep in refl
+keep_agree f g (x ∷ xs) h =
+    let rest = keep_agree f g xs (λ y m. h y (Memᴰ.tail m)) in
     let same = h x (Memᴰ.head refl) in
     ⊎_elim
-    (λ (t : g x ≡ true). keep-yes f x xs (same ∙ t) ∙ ap (λ (r : List ℕ). x ∷ r) rest ∙ sym (keep-yes g x xs t))
-    (λ (t : g x ≡ false). keep-no f x xs (same ∙ t) ∙ rest ∙ sym (keep-no g x xs t))
-    (true-or-false (g x))
+    (λ (t : g x ≡ true). keep_yes f x xs (same ∙ t) ∙ ap (λ (r : List ℕ). x ∷ r) rest ∙ sym (keep_yes g x xs t))
+    (λ (t : g x ≡ false). keep_no f x xs (same ∙ t) ∙ rest ∙ sym (keep_no g x xs t))
+    (true_or_false (g x))
 
 -- the fan-ins of the gates below v, and of v
 
-pub fanins-next : (row marks : List ℕ) (v : ℕ)
-    → mark (mark marks (fanins-of row (upto v))) (fanins-in row v) ≡ mark marks (fanins-of row (upto (v + 1)))
-unfolding fanins-of upto gather
-fanins-next row marks v =
-    let below = gather (fanins-in row) (upto v) in
-    sym (mark-append marks below (fanins-in row v))
+pub fanins_next : (row marks : List ℕ) (v : ℕ)
+    → mark (mark marks (fanins_of row (upto v))) (fanins_in row v) ≡ mark marks (fanins_of row (upto (v + 1)))
+unfolding fanins_of upto gather
+fanins_next row marks v =
+    let below = gather (fanins_in row) (upto v) in
+    sym (mark_append marks below (fanins_in row v))
     ∙ ap (mark marks)
     (sym
     (rw add-one
-    (gather_append (fanins-in row) (upto v) (v ∷ []) ∙ ap (λ (r : List ℕ). below ++ r) (append-nil (fanins-in row v)))))
+    (gather_append (fanins_in row) (upto v) (v ∷ []) ∙ ap (λ (r : List ℕ). below ++ r) (append-nil (fanins_in row v)))))
 
 -- the largest label so far, and one gate more
 
-largest-last : (xs : List ℕ) (x : ℕ) → largest (xs ++ (x ∷ [])) ≡ max (largest xs) x
+largest_last : (xs : List ℕ) (x : ℕ) → largest (xs ++ (x ∷ [])) ≡ max (largest xs) x
 unfolding largest
-largest-last [] x = omega arith
-largest-last (y ∷ ys) x = let e = largest-last ys x in omega arith
+largest_last [] x = omega arith
+largest_last (y ∷ ys) x = let e = largest_last ys x in omega arith
 
-pub largest-next : (labels row : List ℕ) (v : ℕ)
-    → or-label (largest-label labels (unmarked row v)) (get_or row v 0) (get_or labels v 0)
-    ≡ largest-label labels (unmarked row (v + 1))
-unfolding largest-label unmarked
-largest-next labels row v =
+pub largest_next : (labels row : List ℕ) (v : ℕ)
+    → or_label (largest_label labels (unmarked row v)) (get_or row v 0) (get_or labels v 0)
+    ≡ largest_label labels (unmarked row (v + 1))
+unfolding largest_label unmarked
+largest_next labels row v =
     rw add-one
     (⊎_elim
     (λ (t : eqb (get_or row v 0) 0 ≡ true).
     rw (t, keep_one (λ u. eqb (get_or row u 0) 0) v t, map-append)
-    (sym (largest-last (map (λ u. get_or labels u 0) (keep (λ u. eqb (get_or row u 0) 0) (upto v))) (get_or labels v 0))))
-    (λ (t : eqb (get_or row v 0) 0 ≡ false). rw (t, keep-other (λ u. eqb (get_or row u 0) 0) v t))
-    (true-or-false (eqb (get_or row v 0) 0)))
+    (sym (largest_last (map (λ u. get_or labels u 0) (keep (λ u. eqb (get_or row u 0) 0) (upto v))) (get_or labels v 0))))
+    (λ (t : eqb (get_or row v 0) 0 ≡ false). rw (t, keep_other (λ u. eqb (get_or row u 0) 0) v t))
+    (true_or_false (eqb (get_or row v 0) 0)))
 
 -- marks written from scratch, a gate at a time
 
 -- the mark that a gate starts with
-abbrev pub start-mark : List ℕ → ℕ → ℕ
-start-mark row v = cond (eqb (get_or row v 0) 0) 1 0
+abbrev pub start_mark : List ℕ → ℕ → ℕ
+start_mark row v = cond (eqb (get_or row v 0) 0) 1 0
 
 -- so many marks in front, the rest of the row as it was
 abbrev pub Started : List ℕ → ℕ → List ℕ → List ℕ → Type 0
-Started row v marks₀ marks = marks ≡ map (start-mark row) (upto v) ++ drop v marks₀
+Started row v marks₀ marks = marks ≡ map (start_mark row) (upto v) ++ drop v marks₀
 
 pub started_none : (row marks : List ℕ) → Started row 0 marks marks
 unfolding upto
 started_none row marks = refl
 
-pub started-long : (row marks₀ marks : List ℕ) (v : ℕ) → v ≤ length marks₀ → Started row v marks₀ marks
+pub started_long : (row marks₀ marks : List ℕ) (v : ℕ) → v ≤ length marks₀ → Started row v marks₀ marks
     → length marks ≡ length marks₀
-started-long row marks₀ marks v h s =
+started_long row marks₀ marks v h s =
     ap length s
-    ∙ length-append (map (start-mark row) (upto v)) (drop v marks₀)
-    ∙ omega (arith, length-made (start-mark row) v, length-drop v marks₀)
+    ∙ length-append (map (start_mark row) (upto v)) (drop v marks₀)
+    ∙ omega (arith, length_made (start_mark row) v, length-drop v marks₀)
 
-pub started-next : (row marks₀ marks : List ℕ) (v m : ℕ) → v < length marks₀ → Started row v marks₀ marks → m ≡ start-mark row v
+pub started_next : (row marks₀ marks : List ℕ) (v m : ℕ) → v < length marks₀ → Started row v marks₀ marks → m ≡ start_mark row v
     → Started row (v + 1) marks₀ (set marks v m)
 unfolding upto
-started-next row marks₀ marks v m h s e =
-    let front = map (start-mark row) (upto v) in
+started_next row marks₀ marks v m h s e =
+    let front = map (start_mark row) (upto v) in
     rw (add-one, s, e, drop-cons marks₀ v 0)
-    (set_at front (get_or marks₀ v 0) (drop (suc v) marks₀) (start-mark row v) v (length-made (start-mark row) v)
+    (set_at front (get_or marks₀ v 0) (drop (suc v) marks₀) (start_mark row v) v (length_made (start_mark row) v)
     ∙ sym
-    (ap (λ (r : List ℕ). r ++ drop (suc v) marks₀) (map-append (start-mark row) (upto v) (v ∷ []))
-    ∙ append_assoc front (start-mark row v ∷ []) (drop (suc v) marks₀)))
+    (ap (λ (r : List ℕ). r ++ drop (suc v) marks₀) (map-append (start_mark row) (upto v) (v ∷ []))
+    ∙ append_assoc front (start_mark row v ∷ []) (drop (suc v) marks₀)))
 
-member-keep : (f : ℕ → Bool) (k v : ℕ) → v < k → member v (keep f (upto k)) ≡ f v
-member-keep f k v h =
-    ⊎_elim (λ (t : f v ≡ true). true-member (in-keep f (in-upto k h) t) ∙ sym t)
-    (λ (t : f v ≡ false). false-member v (keep f (upto k)) (λ m. not-both (keep-in f v (upto k) m).1 t) ∙ sym t)
-    (true-or-false (f v))
+member_keep : (f : ℕ → Bool) (k v : ℕ) → v < k → member v (keep f (upto k)) ≡ f v
+member_keep f k v h =
+    ⊎_elim (λ (t : f v ≡ true). true_member (in_keep f (in_upto k h) t) ∙ sym t)
+    (λ (t : f v ≡ false). false_member v (keep f (upto k)) (λ m. not_both (keep_in f v (upto k) m).1 t) ∙ sym t)
+    (true_or_false (f v))
 
-pub started-all : (row marks₀ marks : List ℕ) (v : ℕ) → length marks₀ ≡ v → Started row v marks₀ marks
+pub started_all : (row marks₀ marks : List ℕ) (v : ℕ) → length marks₀ ≡ v → Started row v marks₀ marks
     → marks ≡ mark (replicate v 0) (unmarked row v)
 unfolding unmarked
-started-all row marks₀ marks v e s =
+started_all row marks₀ marks v e s =
     let none_left : length marks₀ ≤ v = omega arith in
     s
-    ∙ ap (λ (r : List ℕ). map (start-mark row) (upto v) ++ r) (drop_of_length-le marks₀ none_left)
-    ∙ append-nil (map (start-mark row) (upto v))
-    ∙ ext_get_or 0 (map (start-mark row) (upto v)) (mark (replicate v 0) (keep unread (upto v)))
-    (omega (arith, length-made (start-mark row) v, length-mark (replicate v 0) (keep unread (upto v)), length-replicate {A = ℕ} v 0))
+    ∙ ap (λ (r : List ℕ). map (start_mark row) (upto v) ++ r) (drop_of_length-le marks₀ none_left)
+    ∙ append-nil (map (start_mark row) (upto v))
+    ∙ ext_get_or 0 (map (start_mark row) (upto v)) (mark (replicate v 0) (keep unread (upto v)))
+    (omega (arith, length_made (start_mark row) v, length_mark (replicate v 0) (keep unread (upto v)), length-replicate {A = ℕ} v 0))
     (λ i h.
-    let below : i < v = omega (arith, length-made (start-mark row) v) in
-    getD-made (start-mark row) 0 v i below ∙ sym (fresh_at v (keep unread (upto v)) i below ∙ rw (member-keep unread v i below)))
+    let below : i < v = omega (arith, length_made (start_mark row) v) in
+    get_or_made (start_mark row) 0 v i below ∙ sym (fresh_at v (keep unread (upto v)) i below ∙ rw (member_keep unread v i below)))
   where
     unread : ℕ → Bool
     unread v = eqb (get_or row v 0) 0
 
 -- marks of the gates of a list that lie outside, a gate at a time
 
-pub outside-next : (inside row xs : List ℕ) (i : ℕ) → i < length xs
+pub outside_next : (inside row xs : List ℕ) (i : ℕ) → i < length xs
     → mark (cond (eqb (get_or inside (get_or xs i 0) 0) 0) (set row (get_or xs i 0) 1) row) (outside inside (drop (i + 1) xs))
     ≡ mark row (outside inside (drop i xs))
 unfolding outside
-outside-next inside row xs i h =
+outside_next inside row xs i h =
     let x = get_or xs i 0 in
     let rest = drop (suc i) xs in
     rw (add-one, drop-cons xs i 0)
-    (⊎_elim (λ (t : eqb (get_or inside x 0) 0 ≡ true). rw (t, keep-yes (λ y. eqb (get_or inside y 0) 0) x rest t) (unfold mark in refl))
-    (λ (t : eqb (get_or inside x 0) 0 ≡ false). rw (t, keep-no (λ y. eqb (get_or inside y 0) 0) x rest t))
-    (true-or-false (eqb (get_or inside x 0) 0)))
+    (⊎_elim (λ (t : eqb (get_or inside x 0) 0 ≡ true). rw (t, keep_yes (λ y. eqb (get_or inside y 0) 0) x rest t) (unfold mark in refl))
+    (λ (t : eqb (get_or inside x 0) 0 ≡ false). rw (t, keep_no (λ y. eqb (get_or inside y 0) 0) x rest t))
+    (true_or_false (eqb (get_or inside x 0) 0)))
 
-pub outside-done : (inside row xs : List ℕ) (i : ℕ) → length xs ≤ i → mark row (outside inside (drop i xs)) ≡ row
+pub outside_done : (inside row xs : List ℕ) (i : ℕ) → length xs ≤ i → mark row (outside inside (drop i xs)) ≡ row
 unfolding outside mark keep
-outside-done inside row xs i h = rw (drop_of_length-le xs h)
+outside_done inside row xs i h = rw (drop_of_length-le xs h)
 
 -- and of the fan-ins of the members
 
-outside-append : (inside xs ys : List ℕ) → outside inside (xs ++ ys) ≡ outside inside xs ++ outside inside ys
+outside_append : (inside xs ys : List ℕ) → outside inside (xs ++ ys) ≡ outside inside xs ++ outside inside ys
 unfolding outside
-outside-append inside xs ys = keep_append (λ x. eqb (get_or inside x 0) 0) xs ys
+outside_append inside xs ys = keep_append (λ x. eqb (get_or inside x 0) 0) xs ys
 
-pub inputs-next : (inside row marks members : List ℕ) (i : ℕ) → i < length members
-    → mark (mark marks (outside inside (fanins-in row (get_or members i 0)))) (outside inside (fanins-of row (drop (i + 1) members)))
-    ≡ mark marks (outside inside (fanins-of row (drop i members)))
-unfolding fanins-of gather
-inputs-next inside row marks members i h =
+pub inputs_next : (inside row marks members : List ℕ) (i : ℕ) → i < length members
+    → mark (mark marks (outside inside (fanins_in row (get_or members i 0)))) (outside inside (fanins_of row (drop (i + 1) members)))
+    ≡ mark marks (outside inside (fanins_of row (drop i members)))
+unfolding fanins_of gather
+inputs_next inside row marks members i h =
     let m = get_or members i 0 in
-    let rest = gather (fanins-in row) (drop (suc i) members) in
+    let rest = gather (fanins_in row) (drop (suc i) members) in
     rw (add-one, drop-cons members i 0)
-    (sym (mark-append marks (outside inside (fanins-in row m)) (outside inside rest))
-    ∙ ap (mark marks) (sym (outside-append inside (fanins-in row m) rest)))
+    (sym (mark_append marks (outside inside (fanins_in row m)) (outside inside rest))
+    ∙ ap (mark marks) (sym (outside_append inside (fanins_in row m) rest)))
 
-pub inputs-done : (inside row marks members : List ℕ) (i : ℕ) → length members ≤ i
-    → mark marks (outside inside (fanins-of row (drop i members))) ≡ marks
-unfolding fanins-of gather outside mark keep
-inputs-done inside row marks members i h = rw (drop_of_length-le members h)
+pub inputs_done : (inside row marks members : List ℕ) (i : ℕ) → length members ≤ i
+    → mark marks (outside inside (fanins_of row (drop i members))) ≡ marks
+unfolding fanins_of gather outside mark keep
+inputs_done inside row marks members i h = rw (drop_of_length-le members h)

@@ -12,128 +12,128 @@ use lib.Seq.{get_or_at}
 use Rattle.model.specs.Basics.{◌∈◌, keep, upto}
 use Rattle.model.specs.Network.{Network, size, outputs}
 use Rattle.model.specs.Drawing.{mark, marks, drawn}
-use Rattle.model.proofs.Lists.{same_or_not, keep-in, upto-in}
-use Rattle.model.proofs.Drawn.{length-mark, length-select}
-use Rattle.labelling.proofs.Lists.{getD-in}
+use Rattle.model.proofs.Lists.{same_or_not, keep_in, upto_in}
+use Rattle.model.proofs.Drawn.{length_mark, length_select}
+use Rattle.labelling.proofs.Lists.{get_or_in}
 use Rattle.selection.specs.Selection.{roots}
-use Rattle.selection.proofs.Marks.{keep_one, keep-other, keep-agree}
+use Rattle.selection.proofs.Marks.{keep_one, keep_other, keep_agree}
 
 -- roots, a gate at a time
 
-pub roots-none : (marks : List ℕ) → roots marks 0 ≡ []
+pub roots_none : (marks : List ℕ) → roots marks 0 ≡ []
 unfolding roots upto keep
-roots-none marks = refl
+roots_none marks = refl
 
-pub roots-marked : (marks : List ℕ) (v : ℕ) → (get_or marks v 0 ≡ 0 → ⊥) → roots marks (v + 1) ≡ roots marks v ++ (v ∷ [])
+pub roots_marked : (marks : List ℕ) (v : ℕ) → (get_or marks v 0 ≡ 0 → ⊥) → roots marks (v + 1) ≡ roots marks v ++ (v ∷ [])
 unfolding roots
-roots-marked marks v h = rw add-one (keep_one (λ r. ltb 0 (get_or marks r 0)) v (lt-ltb 0 (get_or marks v 0) (omega arith)))
+roots_marked marks v h = rw add-one (keep_one (λ r. ltb 0 (get_or marks r 0)) v (lt-ltb 0 (get_or marks v 0) (omega arith)))
 
-pub roots-bare : (marks : List ℕ) (v : ℕ) → get_or marks v 0 ≡ 0 → roots marks (v + 1) ≡ roots marks v
+pub roots_bare : (marks : List ℕ) (v : ℕ) → get_or marks v 0 ≡ 0 → roots marks (v + 1) ≡ roots marks v
 unfolding roots
-roots-bare marks v h = rw add-one (keep-other (λ r. ltb 0 (get_or marks r 0)) v (le-ltb 0 (get_or marks v 0) (omega arith)))
+roots_bare marks v h = rw add-one (keep_other (λ r. ltb 0 (get_or marks r 0)) v (le-ltb 0 (get_or marks v 0) (omega arith)))
 
 -- one gate more, marked or not
-roots-more : (marks : List ℕ) (k : ℕ) → (roots marks (suc k) ≡ roots marks k ++ (k ∷ [])) ⊎ (roots marks (suc k) ≡ roots marks k)
-roots-more marks k =
-    ⊎_elim (λ (e : get_or marks k 0 ≡ 0). inr (rw add-one at (roots-bare marks k e)))
-    (λ (d : get_or marks k 0 ≡ 0 → ⊥). inl (rw add-one at (roots-marked marks k d)))
+roots_more : (marks : List ℕ) (k : ℕ) → (roots marks (suc k) ≡ roots marks k ++ (k ∷ [])) ⊎ (roots marks (suc k) ≡ roots marks k)
+roots_more marks k =
+    ⊎_elim (λ (e : get_or marks k 0 ≡ 0). inr (rw add-one at (roots_bare marks k e)))
+    (λ (d : get_or marks k 0 ≡ 0 → ⊥). inl (rw add-one at (roots_marked marks k d)))
     (same_or_not (get_or marks k 0) 0)
 
 -- A gate past the row's end has no mark, so that the roots below the end are all.
-roots-end : (marks : List ℕ) (v k : ℕ) → v ≤ k → length marks ≤ v → roots marks k ≡ roots marks v
-roots-end marks v zero h l = let e : v ≡ zero = omega arith in rw e
-roots-end marks v (suc k) h l =
+roots_end : (marks : List ℕ) (v k : ℕ) → v ≤ k → length marks ≤ v → roots marks k ≡ roots marks v
+roots_end marks v zero h l = let e : v ≡ zero = omega arith in rw e
+roots_end marks v (suc k) h l =
     ⊎_elim (λ (e : v ≡ suc k). rw e)
     (λ (d : v ≡ suc k → ⊥).
     let past : length marks ≤ k = omega arith in
-    rw add-one at (roots-bare marks k (get_or-eq_default marks 0 past)) ∙ roots-end marks v k (omega arith) l)
+    rw add-one at (roots_bare marks k (get_or-eq_default marks 0 past)) ∙ roots_end marks v k (omega arith) l)
     (same_or_not v (suc k))
 
 -- The gates below v have been looked at, and there are no more, or no more marks.
-pub roots-seen : (marks : List ℕ) (v k : ℕ) → v ≤ k → (k ≤ v) ⊎ (length marks ≤ v) → roots marks k ≡ roots marks v
-roots-seen marks v k h l =
-    ⊎_elim (λ (m : k ≤ v). let e : k ≡ v = omega arith in rw e) (λ (m : length marks ≤ v). roots-end marks v k h m) l
+pub roots_seen : (marks : List ℕ) (v k : ℕ) → v ≤ k → (k ≤ v) ⊎ (length marks ≤ v) → roots marks k ≡ roots marks v
+roots_seen marks v k h l =
+    ⊎_elim (λ (m : k ≤ v). let e : k ≡ v = omega arith in rw e) (λ (m : length marks ≤ v). roots_end marks v k h m) l
 
 -- no more roots than gates, and each a gate
 
 pub roots_few : (marks : List ℕ) (k : ℕ) → length (roots marks k) ≤ k
-roots_few marks zero = omega (arith, ap length (roots-none marks))
+roots_few marks zero = omega (arith, ap length (roots_none marks))
 roots_few marks (suc k) =
     ⊎_elim (λ e. omega (arith, ap length e, length-append (roots marks k) (k ∷ []), roots_few marks k))
     (λ e. omega (arith, ap length e, roots_few marks k))
-    (roots-more marks k)
+    (roots_more marks k)
 
-pub roots-in : (marks : List ℕ) (k r : ℕ) → r ∈ roots marks k → r < k
+pub roots_in : (marks : List ℕ) (k r : ℕ) → r ∈ roots marks k → r < k
 unfolding roots
-roots-in marks k r m = upto-in k r (keep-in (λ r. ltb 0 (get_or marks r 0)) r (upto k) m).0
+roots_in marks k r m = upto_in k r (keep_in (λ r. ltb 0 (get_or marks r 0)) r (upto k) m).0
 
 get_d_any : (xs : List ℕ) (i d e : ℕ) → i < length xs → get_or xs i d ≡ get_or xs i e
 get_d_any [] i d e h = absurd (omega arith)
 get_d_any (x ∷ xs) zero d e h = refl
 get_d_any (x ∷ xs) (suc i) d e h = get_d_any xs i d e (omega arith)
 
-pub root-known : (marks : List ℕ) (k i d : ℕ) → i < length (roots marks k) → get_or (roots marks k) i d < k
-root-known marks k i d h =
-    rw (get_d_any (roots marks k) i d 0 h) (roots-in marks k (get_or (roots marks k) i 0) (getD-in (roots marks k) i h))
+pub root_known : (marks : List ℕ) (k i d : ℕ) → i < length (roots marks k) → get_or (roots marks k) i d < k
+root_known marks k i d h =
+    rw (get_d_any (roots marks k) i d 0 h) (roots_in marks k (get_or (roots marks k) i 0) (get_or_in (roots marks k) i h))
 
 -- the root of an index
 
-roots-grow : (marks : List ℕ) (k : ℕ) → length (roots marks k) ≤ length (roots marks (suc k))
-roots-grow marks k =
+roots_grow : (marks : List ℕ) (k : ℕ) → length (roots marks k) ≤ length (roots marks (suc k))
+roots_grow marks k =
     ⊎_elim (λ e. omega (arith, ap length e, length-append (roots marks k) (k ∷ [])))
     (λ e. omega (arith, ap length e))
-    (roots-more marks k)
+    (roots_more marks k)
 
-root-counts : (marks : List ℕ) (v k : ℕ) → v < k → (get_or marks v 0 ≡ 0 → ⊥) → length (roots marks v) < length (roots marks k)
-root-counts marks v zero h m = absurd (omega arith)
-root-counts marks v (suc k) h m =
+root_counts : (marks : List ℕ) (v k : ℕ) → v < k → (get_or marks v 0 ≡ 0 → ⊥) → length (roots marks v) < length (roots marks k)
+root_counts marks v zero h m = absurd (omega arith)
+root_counts marks v (suc k) h m =
     ⊎_elim
     (λ (e : v ≡ k).
     rw e
-    (let more = rw add-one at (roots-marked marks v m) in
+    (let more = rw add-one at (roots_marked marks v m) in
     omega (arith, ap length (rw e at more), length-append (roots marks k) (k ∷ []))))
-    (λ (d : v ≡ k → ⊥). omega (arith, root-counts marks v k (omega arith) m, roots-grow marks k))
+    (λ (d : v ≡ k → ⊥). omega (arith, root_counts marks v k (omega arith) m, roots_grow marks k))
     (same_or_not v k)
 
 -- A marked gate is the root whose index is the number of roots below it,
-pub root-here : (marks : List ℕ) (v k i d : ℕ) → v < k → (get_or marks v 0 ≡ 0 → ⊥) → length (roots marks v) ≡ i
+pub root_here : (marks : List ℕ) (v k i d : ℕ) → v < k → (get_or marks v 0 ≡ 0 → ⊥) → length (roots marks v) ≡ i
     → v ≡ get_or (roots marks k) i d
-root-here marks v zero i d h m e = absurd (omega arith)
-root-here marks v (suc k) i d h m e =
+root_here marks v zero i d h m e = absurd (omega arith)
+root_here marks v (suc k) i d h m e =
     ⊎_elim
     (λ (q : v ≡ k).
-    let more = rw add-one at (roots-marked marks v m) in
+    let more = rw add-one at (roots_marked marks v m) in
     rw (← q) (sym (ap (λ (r : List ℕ). get_or r i d) more ∙ get_or_at (roots marks v) v [] d i e)))
     (λ (n : v ≡ k → ⊥).
-    let inside = root-counts marks v k (omega arith) m in
-    root-here marks v k i d (omega arith) m e
+    let inside = root_counts marks v k (omega arith) m in
+    root_here marks v k i d (omega arith) m e
     ∙ sym
     (⊎_elim
     (λ (q : roots marks (suc k) ≡ roots marks k ++ (k ∷ [])). rw q (get_or-append (roots marks k) (k ∷ []) d i (omega arith)))
     (λ (q : roots marks (suc k) ≡ roots marks k). rw q)
-    (roots-more marks k)))
+    (roots_more marks k)))
     (same_or_not v k)
 
 -- and with no more roots than its index there is none.
-pub root-past : (marks : List ℕ) (v k i : ℕ) → v ≤ k → (k ≤ v) ⊎ (length marks ≤ v) → length (roots marks v) ≤ i
+pub root_past : (marks : List ℕ) (v k i : ℕ) → v ≤ k → (k ≤ v) ⊎ (length marks ≤ v) → length (roots marks v) ≤ i
     → k ≡ get_or (roots marks k) i k
-root-past marks v k i h l few =
-    sym (get_or-eq_default (roots marks k) k (omega (arith, ap length (roots-seen marks v k h l))))
+root_past marks v k i h l few =
+    sym (get_or-eq_default (roots marks k) k (omega (arith, ap length (roots_seen marks v k h l))))
 
 -- the marks of the drawn clusters
 
-pub length-marks : (n : Network) (l : List ℕ) → length (marks n l) ≡ size n
+pub length_marks : (n : Network) (l : List ℕ) → length (marks n l) ≡ size n
 unfolding marks
-length-marks n l =
-    length-select n l (size n) (mark (replicate (size n) 0) (outputs n))
-    ∙ length-mark (replicate (size n) 0) (outputs n)
+length_marks n l =
+    length_select n l (size n) (mark (replicate (size n) 0) (outputs n))
+    ∙ length_mark (replicate (size n) 0) (outputs n)
     ∙ length-replicate {A = ℕ} (size n) 0
 
 -- The marks in front of a row tell the drawn clusters.
-pub drawn-roots : (n : Network) (l : List ℕ) (gates : ℕ) (rest : List ℕ) → size n ≡ gates
+pub drawn_roots : (n : Network) (l : List ℕ) (gates : ℕ) (rest : List ℕ) → size n ≡ gates
     → roots (marks n l ++ rest) gates ≡ drawn n l
 unfolding roots drawn
-drawn-roots n l gates rest s =
+drawn_roots n l gates rest s =
     rw (← s)
-    (keep-agree (λ r. ltb 0 (get_or (marks n l ++ rest) r 0)) (λ r. ltb 0 (get_or (marks n l) r 0)) (upto (size n))
-    (λ r m. ap (ltb 0) (get_or-append (marks n l) rest 0 r (omega (arith, length-marks n l, upto-in (size n) r m)))))
+    (keep_agree (λ r. ltb 0 (get_or (marks n l ++ rest) r 0)) (λ r. ltb 0 (get_or (marks n l) r 0)) (upto (size n))
+    (λ r m. ap (ltb 0) (get_or-append (marks n l) rest 0 r (omega (arith, length_marks n l, upto_in (size n) r m)))))

@@ -12,39 +12,39 @@ use borrow.Author.Tests.{leb-true, ltb-true, ltb-false}
 use lib.ListN.{length, get_or, get_or-eq_default}
 use lib.Dec.{leb, ltb}
 use Rattle.model.specs.Basics.{◌∈◌}
-use Rattle.model.specs.Ceilings.{most-gates, most-fanins, most-weight, most-delay, most-hop, most-capacity}
+use Rattle.model.specs.Ceilings.{most_gates, most_fanins, most_weight, most_delay, most_hop, most_capacity}
 use Rattle.model.specs.Network.{Gate, Network, size, weight, delay, fanins, position, WellFormed, WithinCeilings, Heavy}
-use Rattle.model.proofs.Networks.{reader-known}
-use Rattle.frames.specs.Table.{rising-from}
-use Rattle.texts.specs.Reading.{network, first-heavy, reading}
+use Rattle.model.proofs.Networks.{reader_known}
+use Rattle.frames.specs.Table.{rising_from}
+use Rattle.texts.specs.Reading.{network, first_heavy, reading}
 use Rattle.frames.proofs.Tests.{both_true, passed}
 use Rattle.texts.proofs.Faultless.{Fit}
-use Rattle.texts.proofs.Accepted.{AllFit, accepted-text}
+use Rattle.texts.proofs.Accepted.{AllFit, accepted_text}
 
 -- fan-ins that rise
 
-first-rising : (least bound x : ℕ) (xs : List ℕ) → rising-from least bound (x ∷ xs) ≡ true
-    → (least ≤ x) × (x < bound) × (rising-from (suc x) bound xs ≡ true)
-unfolding rising-from
-first-rising least bound x xs e =
-    let a = both_true (leb least x && ltb x bound) (rising-from (suc x) bound xs) e in
+first_rising : (least bound x : ℕ) (xs : List ℕ) → rising_from least bound (x ∷ xs) ≡ true
+    → (least ≤ x) × (x < bound) × (rising_from (suc x) bound xs ≡ true)
+unfolding rising_from
+first_rising least bound x xs e =
+    let a = both_true (leb least x && ltb x bound) (rising_from (suc x) bound xs) e in
     let b = both_true (leb least x) (ltb x bound) a.0 in
     (leb-true least x b.0, ltb-true x bound b.1, a.1)
 
-pub rising-below : (least bound : ℕ) (xs : List ℕ) → rising-from least bound xs ≡ true → (x : ℕ) → x ∈ xs → x < bound
-rising-below least bound [] e x m = absurd (Memᴰ.not-nil m)
-rising-below least bound (y ∷ ys) e x m =
-    let f = first-rising least bound y ys e in
-    ⊎_elim (λ (d : x ≡ y). omega arith) (λ (m' : x ∈ ys). rising-below (suc y) bound ys f.2 x m') (Memᴰ.cases_cons m)
+pub rising_below : (least bound : ℕ) (xs : List ℕ) → rising_from least bound xs ≡ true → (x : ℕ) → x ∈ xs → x < bound
+rising_below least bound [] e x m = absurd (Memᴰ.not_nil m)
+rising_below least bound (y ∷ ys) e x m =
+    let f = first_rising least bound y ys e in
+    ⊎_elim (λ (d : x ≡ y). omega arith) (λ (m' : x ∈ ys). rising_below (suc y) bound ys f.2 x m') (Memᴰ.cases_cons m)
 
-pub rising-steps : (least bound : ℕ) (xs : List ℕ) → rising-from least bound xs ≡ true
+pub rising_steps : (least bound : ℕ) (xs : List ℕ) → rising_from least bound xs ≡ true
     → (i : ℕ) → suc i < length xs → get_or xs i 0 < get_or xs (suc i) 0
-rising-steps least bound [] e i h = absurd (omega arith)
-rising-steps least bound (x ∷ []) e i h = absurd (omega arith)
-rising-steps least bound (x ∷ y ∷ ys) e zero h =
-    (first-rising (suc x) bound y ys (first-rising least bound x (y ∷ ys) e).2).0
-rising-steps least bound (x ∷ y ∷ ys) e (suc i) h =
-    rising-steps (suc x) bound (y ∷ ys) (first-rising least bound x (y ∷ ys) e).2 i (omega arith)
+rising_steps least bound [] e i h = absurd (omega arith)
+rising_steps least bound (x ∷ []) e i h = absurd (omega arith)
+rising_steps least bound (x ∷ y ∷ ys) e zero h =
+    (first_rising (suc x) bound y ys (first_rising least bound x (y ∷ ys) e).2).0
+rising_steps least bound (x ∷ y ∷ ys) e (suc i) h =
+    rising_steps (suc x) bound (y ∷ ys) (first_rising least bound x (y ∷ ys) e).2 i (omega arith)
 
 -- gates that fit, and are light
 
@@ -53,102 +53,102 @@ fit_at v [] f i d h = absurd (omega arith)
 fit_at v (g ∷ gs) f zero d h = let c : v + zero ≡ v = omega arith in rw c f.0
 fit_at v (g ∷ gs) f (suc i) d h = let c : v + suc i ≡ suc v + i = omega arith in rw c (fit_at (suc v) gs f.1 i d (omega arith))
 
-pub light-at : (capacity at : ℕ) (gs : List Gate) → first-heavy capacity at gs ≡ none
+pub light_at : (capacity at : ℕ) (gs : List Gate) → first_heavy capacity at gs ≡ none
     → (i : ℕ) (d : Gate) → i < length gs → (get_or gs i d).weight ≤ capacity
-unfolding first-heavy
-light-at capacity at [] e i d h = absurd (omega arith)
-light-at capacity at (g ∷ gs) e zero d h = ltb-false capacity g.weight (passed (ltb capacity g.weight) at _ e).0
-light-at capacity at (g ∷ gs) e (suc i) d h =
-    light-at capacity (suc at) gs (passed (ltb capacity g.weight) at _ e).1 i d (omega arith)
+unfolding first_heavy
+light_at capacity at [] e i d h = absurd (omega arith)
+light_at capacity at (g ∷ gs) e zero d h = ltb-false capacity g.weight (passed (ltb capacity g.weight) at _ e).0
+light_at capacity at (g ∷ gs) e (suc i) d h =
+    light_at capacity (suc at) gs (passed (ltb capacity g.weight) at _ e).1 i d (omega arith)
 
 -- Of an accepted network nothing is above its ceiling, fan-ins rise and stand before their gate, and no gate is heavier than M.
 pub record AcceptedNetwork (n : Network) : Type 0 where
-  pub some-gate : 0 < size n
-  pub gates : size n ≤ most-gates
-  pub fan-ins : (v : ℕ) → length (fanins n v) ≤ most-fanins
+  pub some_gate : 0 < size n
+  pub gates : size n ≤ most_gates
+  pub fan_ins : (v : ℕ) → length (fanins n v) ≤ most_fanins
   pub rising : (v i : ℕ) → suc i < length (fanins n v) → get_or (fanins n v) i 0 < get_or (fanins n v) (suc i) 0
   pub below : (v x : ℕ) → x ∈ fanins n v → x < v
   pub known : (v x : ℕ) → x ∈ fanins n v → x < size n
-  pub weights : (v : ℕ) → weight n v ≤ most-weight
-  pub delays : (v : ℕ) → delay n v ≤ most-delay
-  pub hop : n.hop ≤ most-hop
-  pub capacity : n.capacity ≤ most-capacity
+  pub weights : (v : ℕ) → weight n v ≤ most_weight
+  pub delays : (v : ℕ) → delay n v ≤ most_delay
+  pub hop : n.hop ≤ most_hop
+  pub capacity : n.capacity ≤ most_capacity
   pub light : (v : ℕ) → weight n v ≤ n.capacity
 
 -- the gate past the last, which has nothing
-abbrev no-gate : Gate
-no-gate = record { weight = 0; delay = 0; fanins = [] }
+abbrev no_gate : Gate
+no_gate = record { weight = 0; delay = 0; fanins = [] }
 
 -- what holds of the gates and of none holds of every number
-everywhere : (P : ℕ → Gate → Type 0) (gs : List Gate) → ((v : ℕ) → P v no-gate) → ((v : ℕ) → v < length gs → P v (get_or gs v no-gate))
-    → (v : ℕ) → P v (get_or gs v no-gate)
+everywhere : (P : ℕ → Gate → Type 0) (gs : List Gate) → ((v : ℕ) → P v no_gate) → ((v : ℕ) → v < length gs → P v (get_or gs v no_gate))
+    → (v : ℕ) → P v (get_or gs v no_gate)
 everywhere P gs z f v =
     elim (dec_lt v (length gs)) [
       | yes h ↦ f v h
-      | no h ↦ rw (get_or-eq_default gs no-gate {n = v} (omega arith)) (z v)
+      | no h ↦ rw (get_or-eq_default gs no_gate {n = v} (omega arith)) (z v)
     ]
 
 -- gates that all fit, heavy or not
-module _ (n : Network) (some-gate : 0 < size n) (fit : AllFit 0 n.gates) where
-  fits : (v : ℕ) → v < length n.gates → Fit v (get_or n.gates v no-gate)
+module _ (n : Network) (some_gate : 0 < size n) (fit : AllFit 0 n.gates) where
+  fits : (v : ℕ) → v < length n.gates → Fit v (get_or n.gates v no_gate)
   fits v h =
       let c : 0 + v ≡ v = omega arith in
-      rw c at (fit_at 0 n.gates fit v no-gate h)
+      rw c at (fit_at 0 n.gates fit v no_gate h)
 
-  in_order : (v : ℕ) → rising-from 0 v (fanins n v) ≡ true
-  unfolding fanins rising-from
+  in_order : (v : ℕ) → rising_from 0 v (fanins n v) ≡ true
+  unfolding fanins rising_from
   in_order =
-      everywhere (λ v g. rising-from 0 v g.fanins ≡ true) n.gates (λ v. refl) (λ v h. (fits v h).rising)
+      everywhere (λ v g. rising_from 0 v g.fanins ≡ true) n.gates (λ v. refl) (λ v h. (fits v h).rising)
 
-  fan-in-below : (v x : ℕ) → x ∈ fanins n v → x < v
-  fan-in-below v = rising-below 0 v (fanins n v) (in_order v)
+  fan_in_below : (v x : ℕ) → x ∈ fanins n v → x < v
+  fan_in_below v = rising_below 0 v (fanins n v) (in_order v)
 
-  pub fit-well-formed : WellFormed n
+  pub fit_well_formed : WellFormed n
   unfolding position
-  fit-well-formed =
+  fit_well_formed =
       record {
-        some-gate = some-gate;
-        known = λ v x m. omega (arith, fan-in-below v x m, reader-known n v x m);
-        below = fan-in-below;
+        some_gate = some_gate;
+        known = λ v x m. omega (arith, fan_in_below v x m, reader_known n v x m);
+        below = fan_in_below;
       }
 
 module _ (text : List ℕ) (n : Network) (e : reading text ≡ network n) where
-  pub accepted-well-formed : WellFormed n
-  accepted-well-formed = let t = accepted-text text n e in fit-well-formed n t.some-gate t.fit
+  pub accepted_well_formed : WellFormed n
+  accepted_well_formed = let t = accepted_text text n e in fit_well_formed n t.some_gate t.fit
 
-  pub accepted-network : AcceptedNetwork n
+  pub accepted_network : AcceptedNetwork n
   unfolding size fanins weight delay
-  accepted-network =
-      let t = accepted-text text n e in
-      let each = fits n t.some-gate t.fit in
-      let wf = accepted-well-formed in
+  accepted_network =
+      let t = accepted_text text n e in
+      let each = fits n t.some_gate t.fit in
+      let wf = accepted_well_formed in
       record {
-        some-gate = t.some-gate;
-        gates = let s = t.some-gate in omega (arith, (each (pred (length n.gates)) (omega arith)).number);
-        fan-ins = everywhere (λ v g. length g.fanins ≤ most-fanins) n.gates (λ v. omega arith) (λ v h. (each v h).few);
-        rising = λ v. rising-steps 0 v (fanins n v) (in_order n t.some-gate t.fit v);
-        below = fan-in-below n t.some-gate t.fit;
+        some_gate = t.some_gate;
+        gates = let s = t.some_gate in omega (arith, (each (pred (length n.gates)) (omega arith)).number);
+        fan_ins = everywhere (λ v g. length g.fanins ≤ most_fanins) n.gates (λ v. omega arith) (λ v h. (each v h).few);
+        rising = λ v. rising_steps 0 v (fanins n v) (in_order n t.some_gate t.fit v);
+        below = fan_in_below n t.some_gate t.fit;
         known = wf.known;
-        weights = everywhere (λ v g. g.weight ≤ most-weight) n.gates (λ v. omega arith) (λ v h. (each v h).weight);
-        delays = everywhere (λ v g. g.delay ≤ most-delay) n.gates (λ v. omega arith) (λ v h. (each v h).delay);
+        weights = everywhere (λ v g. g.weight ≤ most_weight) n.gates (λ v. omega arith) (λ v h. (each v h).weight);
+        delays = everywhere (λ v g. g.delay ≤ most_delay) n.gates (λ v. omega arith) (λ v h. (each v h).delay);
         hop = t.hop;
         capacity = t.capacity;
         light =
             everywhere (λ v g. g.weight ≤ n.capacity) n.gates (λ v. omega arith)
-            (λ v. light-at n.capacity 2 n.gates t.light v no-gate);
+            (λ v. light_at n.capacity 2 n.gates t.light v no_gate);
       }
 
-  pub accepted-within-ceilings : WithinCeilings n
-  accepted-within-ceilings =
-      let a = accepted-network in
+  pub accepted_within_ceilings : WithinCeilings n
+  accepted_within_ceilings =
+      let a = accepted_network in
       record {
         gates = a.gates;
-        fan-ins = a.fan-ins;
+        fan_ins = a.fan_ins;
         weights = a.weights;
         delays = a.delays;
         hop = a.hop;
         capacity = a.capacity;
       }
 
-  pub accepted-not-heavy : (v : ℕ) → Heavy n v → ⊥
-  accepted-not-heavy v h = omega (arith, accepted-network.light v, h.above)
+  pub accepted_not_heavy : (v : ℕ) → Heavy n v → ⊥
+  accepted_not_heavy v h = omega (arith, accepted_network.light v, h.above)

@@ -17,16 +17,16 @@ module _
     (Say : Refusal → Type 0) (Read : Network → Type 0) (r : Reading)
     (refusing : (f : Refusal) → Say f → r ≡ refused f) (reading : (n : Network) → Read n → r ≡ network n)
   where
-    said-only : (f : Refusal) → r ≡ refused f → Some Say Read → Say f
-    said-only f h (said {f = g} s) = let e = refusing g s in let same : g ≡ f = cc in rw (← same) s
-    said-only f h (read {n = n} s) = let e = reading n s in absurd (let z : ◌≡◌ {A = ℕ} 0 1 = cc in omega arith)
+    said_only : (f : Refusal) → r ≡ refused f → Some Say Read → Say f
+    said_only f h (said {f = g} s) = let e = refusing g s in let same : g ≡ f = cc in rw (← same) s
+    said_only f h (read {n = n} s) = let e = reading n s in absurd (let z : ◌≡◌ {A = ℕ} 0 1 = cc in omega arith)
 
     read_only : (n : Network) → r ≡ network n → Some Say Read → Read n
     read_only n h (said {f = f} s) = let e = refusing f s in absurd (let z : ◌≡◌ {A = ℕ} 0 1 = cc in omega arith)
     read_only n h (read {n = m} s) = let e = reading m s in let same : m ≡ n = cc in rw (← same) s
 
-    not-both : (n : Network) (f : Refusal) → r ≡ network n → Say f → ⊥
-    not-both n f e s = let e' = refusing f s in let z : ◌≡◌ {A = ℕ} 0 1 = cc in omega arith
+    not_both : (n : Network) (f : Refusal) → r ≡ network n → Say f → ⊥
+    not_both n f e s = let e' = refusing f s in let z : ◌≡◌ {A = ℕ} 0 1 = cc in omega arith
 
     unsaid : ((f : Refusal) → Say f → ⊥) → Some Say Read → (n : Network) × (r ≡ network n)
     unsaid nothing (said {f = f} s) = absurd (nothing f s)
@@ -35,9 +35,9 @@ module _
     pub exactly : Some Say Read → Exactly Say Read r
     exactly one =
         record {
-          refusal = λ f. (λ h. said-only f h one, refusing f);
+          refusal = λ f. (λ h. said_only f h one, refusing f);
           whole = λ n. (λ h. read_only n h one, reading n);
-          nothing = (λ found f. not-both found.0 f found.1, λ none. unsaid none one);
-          said-once = λ f g a b. let e = refusing f a in let e' = refusing g b in cc;
-          read-once = λ n m a b. let e = reading n a in let e' = reading m b in cc;
+          nothing = (λ found f. not_both found.0 f found.1, λ none. unsaid none one);
+          said_once = λ f g a b. let e = refusing f a in let e' = refusing g b in cc;
+          read_once = λ n m a b. let e = reading n a in let e' = reading m b in cc;
         }

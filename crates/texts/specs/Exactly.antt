@@ -11,8 +11,8 @@ pub record Exactly (Say : Refusal → Type 0) (Read : Network → Type 0) (r : R
   pub refusal : (f : Refusal) → (r ≡ refused f) ↔ Say f
   pub whole : (n : Network) → (r ≡ network n) ↔ Read n
   pub nothing : ((n : Network) × (r ≡ network n)) ↔ ((f : Refusal) → Say f → ⊥)
-  pub said-once : (f g : Refusal) → Say f → Say g → f ≡ g
-  pub read-once : (n m : Network) → Read n → Read m → n ≡ m
+  pub said_once : (f g : Refusal) → Say f → Say g → f ≡ g
+  pub read_once : (n m : Network) → Read n → Read m → n ≡ m
 
 -- [O6] Every text answers exactly what the table says of it.
 abbrev pub ReadingExactly : Type 0

@@ -7,7 +7,7 @@ use mathlib.Core.Logic.{◌⊎◌, inl, inr, ⊎_elim}
 use native.Mathlib.Omega.{arith}
 use lib.Dec.{leb, ltb}
 use borrow.Author.Tests.{leb-true, leb-false, ltb-true, ltb-false}
-use Rattle.model.specs.Ceilings.{most-gates, most-fanins, most-weight, most-delay}
+use Rattle.model.specs.Ceilings.{most_gates, most_fanins, most_weight, most_delay}
 use Rattle.units.specs.declared.Cells.{Cells}
 use Rattle.units.specs.declared.Ticks.{Ticks}
 use Rattle.units.specs.declared.GateNumber.{GateNumber}
@@ -26,26 +26,26 @@ picked false made above e = inr (refl, e)
 never : {P : Type 0} → ◌≡◌ {A = ℕ} 0 1 → P
 never e = absurd (omega arith)
 
-pub weighed-made : (x : ℕ) (w : Cells) → weighed x ≡ weight.Made w → (x ≤ most-weight) × (w.0 ≡ x)
-weighed-made x w e = ⊎_elim (λ h. (leb-true _ _ h.0, cc)) (λ h. never cc) (picked (leb x most-weight) _ _ e)
+pub weighed_made : (x : ℕ) (w : Cells) → weighed x ≡ weight.Made w → (x ≤ most_weight) × (w.0 ≡ x)
+weighed_made x w e = ⊎_elim (λ h. (leb-true _ _ h.0, cc)) (λ h. never cc) (picked (leb x most_weight) _ _ e)
 
-pub weighed-above : (x : ℕ) → weighed x ≡ weight.Above → most-weight < x
-weighed-above x e = ⊎_elim (λ h. never cc) (λ h. leb-false _ _ h.0) (picked (leb x most-weight) _ _ e)
+pub weighed_above : (x : ℕ) → weighed x ≡ weight.Above → most_weight < x
+weighed_above x e = ⊎_elim (λ h. never cc) (λ h. leb-false _ _ h.0) (picked (leb x most_weight) _ _ e)
 
-pub delayed-made : (x : ℕ) (d : Ticks) → delayed x ≡ delay.Made d → (x ≤ most-delay) × (d.0 ≡ x)
-delayed-made x d e = ⊎_elim (λ h. (leb-true _ _ h.0, cc)) (λ h. never cc) (picked (leb x most-delay) _ _ e)
+pub delayed_made : (x : ℕ) (d : Ticks) → delayed x ≡ delay.Made d → (x ≤ most_delay) × (d.0 ≡ x)
+delayed_made x d e = ⊎_elim (λ h. (leb-true _ _ h.0, cc)) (λ h. never cc) (picked (leb x most_delay) _ _ e)
 
-pub delayed-above : (x : ℕ) → delayed x ≡ delay.Above → most-delay < x
-delayed-above x e = ⊎_elim (λ h. never cc) (λ h. leb-false _ _ h.0) (picked (leb x most-delay) _ _ e)
+pub delayed_above : (x : ℕ) → delayed x ≡ delay.Above → most_delay < x
+delayed_above x e = ⊎_elim (λ h. never cc) (λ h. leb-false _ _ h.0) (picked (leb x most_delay) _ _ e)
 
-pub numbered-made : (x : ℕ) (g : GateNumber) → numbered x ≡ number.Made g → (x < most-gates) × (g.0 ≡ x)
-numbered-made x g e = ⊎_elim (λ h. (ltb-true _ _ h.0, cc)) (λ h. never cc) (picked (ltb x most-gates) _ _ e)
+pub numbered_made : (x : ℕ) (g : GateNumber) → numbered x ≡ number.Made g → (x < most_gates) × (g.0 ≡ x)
+numbered_made x g e = ⊎_elim (λ h. (ltb-true _ _ h.0, cc)) (λ h. never cc) (picked (ltb x most_gates) _ _ e)
 
-pub numbered-above : (x : ℕ) → numbered x ≡ number.Above → most-gates ≤ x
-numbered-above x e = ⊎_elim (λ h. never cc) (λ h. ltb-false _ _ h.0) (picked (ltb x most-gates) _ _ e)
+pub numbered_above : (x : ℕ) → numbered x ≡ number.Above → most_gates ≤ x
+numbered_above x e = ⊎_elim (λ h. never cc) (λ h. ltb-false _ _ h.0) (picked (ltb x most_gates) _ _ e)
 
-pub counted-made : (x : ℕ) (k : FanInCount) → counted x ≡ count.Made k → (x ≤ most-fanins) × (k.0 ≡ x)
-counted-made x k e = ⊎_elim (λ h. (leb-true _ _ h.0, cc)) (λ h. never cc) (picked (leb x most-fanins) _ _ e)
+pub counted_made : (x : ℕ) (k : FanInCount) → counted x ≡ count.Made k → (x ≤ most_fanins) × (k.0 ≡ x)
+counted_made x k e = ⊎_elim (λ h. (leb-true _ _ h.0, cc)) (λ h. never cc) (picked (leb x most_fanins) _ _ e)
 
-pub counted-above : (x : ℕ) → counted x ≡ count.Above → most-fanins < x
-counted-above x e = ⊎_elim (λ h. never cc) (λ h. leb-false _ _ h.0) (picked (leb x most-fanins) _ _ e)
+pub counted_above : (x : ℕ) → counted x ≡ count.Above → most_fanins < x
+counted_above x e = ⊎_elim (λ h. never cc) (λ h. leb-false _ _ h.0) (picked (leb x most_fanins) _ _ e)

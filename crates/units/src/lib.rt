@@ -9,22 +9,22 @@ ghost use Rattle.units.specs.Units.{
   numbered,
   counted,
   held,
-  held-sum,
-  area-sum,
-  time-sum,
-  larger-of,
+  held_sum,
+  area_sum,
+  time_sum,
+  larger_of,
   fits,
   exceeds,
-  weight-place,
-  capacity-place,
-  delay-place,
-  label-place,
-  count-place,
+  weight_place,
+  capacity_place,
+  delay_place,
+  label_place,
+  count_place,
 };
 
 // a + b, or the largest number that 64 bits hold where the sum is above it.
 fn held_sum(a: u64, b: u64) -> u64
-    ensures { result ≡ held-sum a b }
+    ensures { result ≡ held_sum a b }
 {
     if b <= u64::MAX - a { a + b } else { u64::MAX }
 }
@@ -80,7 +80,7 @@ impl Cells {
 
     // Both areas together, held at the largest number of 64 bits.
     pub fn plus(self, other: Cells) -> Cells
-        ensures { result.0 ≡ area-sum self other }
+        ensures { result.0 ≡ area_sum self other }
     {
         Cells(held_sum(self.0, other.0))
     }
@@ -94,14 +94,14 @@ impl Cells {
 
     // This area as a place of a weight row holds it.
     pub fn weight_place(self) -> u16
-        ensures { result ≡ weight-place self }
+        ensures { result ≡ weight_place self }
     {
         held_16(self.0)
     }
 
     // This area as the 32 bits of a capacity hold it.
     pub fn capacity_place(self) -> u32
-        ensures { result ≡ capacity-place self }
+        ensures { result ≡ capacity_place self }
     {
         held_32(self.0)
     }
@@ -135,14 +135,14 @@ impl Ticks {
 
     // One time after the other, held at the largest number of 64 bits.
     pub fn plus(self, other: Ticks) -> Ticks
-        ensures { result.0 ≡ time-sum self other }
+        ensures { result.0 ≡ time_sum self other }
     {
         Ticks(held_sum(self.0, other.0))
     }
 
     // The larger of two times.
     pub fn larger(self, other: Ticks) -> Ticks
-        ensures { result.0 ≡ larger-of self other }
+        ensures { result.0 ≡ larger_of self other }
     {
         if self.0 <= other.0 { other } else { self }
     }
@@ -156,14 +156,14 @@ impl Ticks {
 
     // This time as a place of a delay row, or the 16 bits of a hop delay, hold it.
     pub fn delay_place(self) -> u16
-        ensures { result ≡ delay-place self }
+        ensures { result ≡ delay_place self }
     {
         held_16(self.0)
     }
 
     // This time as a place of a row of labels, or the 32 bits of an output delay, hold it.
     pub fn label_place(self) -> u32
-        ensures { result ≡ label-place self }
+        ensures { result ≡ label_place self }
     {
         held_32(self.0)
     }
@@ -224,7 +224,7 @@ impl FanInCount {
 
     // This count as a place of a count row holds it.
     pub fn count_place(self) -> u8
-        ensures { result ≡ count-place self }
+        ensures { result ≡ count_place self }
     {
         held_8(self.0)
     }

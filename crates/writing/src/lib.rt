@@ -1,10 +1,10 @@
 // The lines of a network that stands in its row: the header, a line a gate, the end. Each is written into a lent row from its
 // start. A row too short for the line answers 10 and is left as it was.
 ghost use Rattle.std.specs.Prelude.{◌<◌};
-ghost use Rattle.frames.specs.Digits.{spell-line};
+ghost use Rattle.frames.specs.Digits.{spell_line};
 ghost use Rattle.frames.specs.Put.{LineWritten, line_at};
-ghost use Rattle.texts.specs.Spelling.{header-bytes, end-bytes};
-ghost use Rattle.rows.specs.Spelling.{gate-line, row-lines};
+ghost use Rattle.texts.specs.Spelling.{header_bytes, end_bytes};
+ghost use Rattle.rows.specs.Spelling.{gate_line, row_lines};
 ghost use Rattle.rows.specs.steps.Holds.{Holds};
 ghost use Rattle.writing.specs.Promises.{RowWritten};
 
@@ -14,7 +14,7 @@ use rows::{Header, Read};
 
 // The header's line [F3]: the digits of seven bytes, and the line feed.
 fn spell_header(capacity: u32, hop: u16, out: &mut [u8]) -> Written
-    ensures { LineWritten (spell-line (header-bytes capacity hop)) out.old result out.new }
+    ensures { LineWritten (spell_line (header_bytes capacity hop)) out.old result out.new }
 {
     if out.len() < 15 {
         return Written::Refused(Refusal::no_room());
@@ -27,7 +27,7 @@ fn spell_header(capacity: u32, hop: u16, out: &mut [u8]) -> Written
 
 // The end's line [F5].
 fn spell_end(gates: u16, out: &mut [u8]) -> Written
-    ensures { LineWritten (spell-line (end-bytes gates)) out.old result out.new }
+    ensures { LineWritten (spell_line (end_bytes gates)) out.old result out.new }
 {
     if out.len() < 7 {
         return Written::Refused(Refusal::no_room());
@@ -40,7 +40,7 @@ fn spell_end(gates: u16, out: &mut [u8]) -> Written
 // A gate's line [F4].
 fn spell_gate(header: Header, row: &[u16], gate: usize, out: &mut [u8]) -> Written
     requires { Holds header row.now × (gate < header.gates) }
-    ensures { LineWritten (gate-line row.now gate) out.old result out.new }
+    ensures { LineWritten (gate_line row.now gate) out.old result out.new }
 {
     let fan_ins = rows::fan_ins(row, gate);
     let count = fan_ins.len();
@@ -58,7 +58,7 @@ fn spell_gate(header: Header, row: &[u16], gate: usize, out: &mut [u8]) -> Writt
 // The line of that index, counted from 0, of a network that is known to stand in its row; past the last line nothing.
 fn spell_line(index: usize, header: Header, row: &[u16], out: &mut [u8]) -> Written
     requires { Holds header row.now }
-    ensures { LineWritten (line_at index (row-lines header row.now)) out.old result out.new }
+    ensures { LineWritten (line_at index (row_lines header row.now)) out.old result out.new }
 {
     let gates = header.gates;
     if index == 0 {

@@ -1,7 +1,7 @@
 -- `cluster::answer` meets its contract: its rows suffice for every text.
 use native.Mathlib.Omega.{arith}
 use borrow.Author.Rules.{rules}
-use Rattle.cluster.proofs.Blocks.{prepared-of}
+use Rattle.cluster.proofs.Blocks.{prepared_of}
 use Rattle.cluster.proofs.answer.Statement.{statement}
 use Rattle.cluster.proofs.answer.Tie as tie
 
@@ -27,11 +27,11 @@ slice-aggregate-print-3 : tie.Need-slice-aggregate-print-3
 slice-aggregate-print-3 c = search rules
 
 print-requires : tie.Need-print-requires
-print-requires c κs = prepared-of c.before.before.before.before.before.before.prepare.ensures (omega arith)
+print-requires c κs = prepared_of c.before.before.before.before.before.before.prepare.ensures (omega arith)
 
 returns : tie.Need-returns
 returns c =
-    c.print.ensures (prepared-of c.before.before.before.before.before.before.before.prepare.ensures (omega arith))
+    c.print.ensures (prepared_of c.before.before.before.before.before.before.before.prepare.ensures (omega arith))
 
 pub answer-spec : {M : Type 1} → statement M
 answer-spec =

@@ -5,11 +5,11 @@ use mathlib.Core.Logic.{inl, inr}
 use native.Mathlib.Omega.{arith}
 use lib.ListN.{length}
 use borrow.Author.Rules.{rules}
-use Rattle.model.specs.Ceilings.{most-gates}
+use Rattle.model.specs.Ceilings.{most_gates}
 use Rattle.drawing.specs.Prepared.{lent_of}
 use Rattle.cluster.specs.Printing.{Prepared, Begins, first}
 use Rattle.cluster.specs.declared.Printed.TheVariants.{Lines}
-use Rattle.cluster.proofs.Blocks.{begins-few, goes_on, at_last}
+use Rattle.cluster.proofs.Blocks.{begins_few, goes_on, at_last}
 use Rattle.cluster.proofs.print.Statement.{statement}
 use Rattle.cluster.proofs.print.Tie as tie
 
@@ -19,7 +19,7 @@ invariant-loop prepared row labels marks out₀ index₀ out index =
     × ((t : Prepared prepared (lent_of row labels marks)) → Begins (length out₀) t.text index)
 
 abbrev decreases-loop : tie.decreases-loop
-decreases-loop prepared row labels marks out₀ index₀ out index = 2 + 2 * most-gates - index
+decreases-loop prepared row labels marks out₀ index₀ out index = 2 + 2 * most_gates - index
 
 loop-holds : tie.Need-loop-init invariant-loop decreases-loop
 loop-holds c = (refl, λ t. first)
@@ -57,11 +57,11 @@ loop-again c =
 
 add-index : tie.Need-overflow-add-index invariant-loop decreases-loop
 add-index c =
-    let t = c.before.before.before.before.before.before.before.before.before.before.before.requires in omega (arith, begins-few ((loop-again c).1 t))
+    let t = c.before.before.before.before.before.before.before.before.before.before.before.requires in omega (arith, begins_few ((loop-again c).1 t))
 
 loop-less : tie.Need-loop-smaller invariant-loop decreases-loop
 loop-less c =
-    let t = c.before.before.before.before.before.before.before.before.before.before.before.requires in omega (arith, begins-few ((loop-again c).1 t))
+    let t = c.before.before.before.before.before.before.before.before.before.before.before.requires in omega (arith, begins_few ((loop-again c).1 t))
 
 pub print-spec : {M : Type 1} → statement M
 print-spec =

@@ -3,7 +3,7 @@ use mathlib.Core.Path.{refl, sym}
 use mathlib.Core.Logic.{inr}
 use lib.Seq.{length-take-le}
 use borrow.Author.Rules.{rules}
-use Rattle.cluster.proofs.Blocks.{told-within, told-bytes, block-printed}
+use Rattle.cluster.proofs.Blocks.{told_within, told_bytes, block_printed}
 use Rattle.cluster.proofs.print_block.Statement.{statement}
 use Rattle.cluster.proofs.print_block.Tie as tie
 
@@ -24,7 +24,7 @@ returns c t = inr refl
 
 slice-reshare-prefix-show : tie.Need-slice-reshare-prefix-show
 slice-reshare-prefix-show c =
-    told-within c.before.before.before.before.before.tell-lines.ensures c.before.told.given.1
+    told_within c.before.before.before.before.before.tell_lines.ensures c.before.told.given.1
     c.before.before.before.before.before.before.before.before.before.before.before.requires
 
 slice-aggregate-show : tie.Need-slice-aggregate-show
@@ -32,7 +32,7 @@ slice-aggregate-show c = sym (length-take-le _ _ (slice-reshare-prefix-show c.be
 
 show-requires : tie.Need-show-requires
 show-requires c κs =
-    told-bytes c.before.before.before.before.before.before.tell-lines.ensures c.before.before.told.given.1
+    told_bytes c.before.before.before.before.before.before.tell_lines.ensures c.before.before.told.given.1
     c.before.before.before.before.before.before.before.before.before.before.before.before.requires
 
 same-length-2 : tie.Need-same-length-2
@@ -40,7 +40,7 @@ same-length-2 c = search rules
 
 returns-2 : tie.Need-returns-2
 returns-2 c =
-    block-printed c.before.before.before.before.before.before.before.tell-lines.ensures c.before.before.before.told.given.1
+    block_printed c.before.before.before.before.before.before.before.tell_lines.ensures c.before.before.before.told.given.1
     c.before.before.before.before.before.before.before.before.before.before.before.before.before.requires
     c.show.ensures
 

@@ -1,7 +1,7 @@
 -- `drawing::fill` meets its contract: reading, labelling and selecting, one after the other.
 use borrow.Author.Rules.{rules}
 use Rattle.drawing.specs.Prepared.{lent_of}
-use Rattle.drawing.proofs.Preparing.{prepared-filled}
+use Rattle.drawing.proofs.Preparing.{prepared_filled}
 use Rattle.drawing.proofs.fill.Statement.{statement}
 use Rattle.drawing.proofs.fill.Tie as tie
 
@@ -30,7 +30,7 @@ returns c =
     let filled = labelled.before.before.before.before.before in
     let s = filled.before.before.before.before.before.before in
     let a = s.args in
-    prepared-filled a.text.now a.header (lent_of a.row.now a.labels.now a.marks.now) s.requires filled.read.ensures.row
+    prepared_filled a.text.now a.header (lent_of a.row.now a.labels.now a.marks.now) s.requires filled.read.ensures.row
     labelled.label.ensures
     drawn.draw.ensures
 

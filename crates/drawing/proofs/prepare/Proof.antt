@@ -2,7 +2,7 @@
 -- otherwise the three passes fill the rows.
 use borrow.Author.Rules.{rules}
 use Rattle.drawing.specs.Prepared.{Lent, lent_of}
-use Rattle.drawing.proofs.Preparing.{prepared-refused, prepared-short, readable, prepared-made}
+use Rattle.drawing.proofs.Preparing.{prepared_refused, prepared_short, readable, prepared_made}
 use Rattle.drawing.proofs.prepare.Statement.{statement}
 use Rattle.drawing.proofs.prepare.Tie as tie
 
@@ -22,7 +22,7 @@ enum_told c = search rules
 returns : tie.Need-returns
 returns c =
     let s = c.before.before.before.before.before.before.before in
-    prepared-refused s.args.text.now (lent s) c.before.before.look.ensures c.enum_told.given.1
+    prepared_refused s.args.text.now (lent s) c.before.before.look.ensures c.enum_told.given.1
 
 too-short-requires : tie.Need-too-short-requires
 too-short-requires c κs = search rules
@@ -45,7 +45,7 @@ returns-2 c =
     let h = t.before.before.before.before.before in
     let l = h.before.before in
     let s = l.before.before.before.before.before in
-    prepared-short s.args.text.now (lent s) l.look.ensures h.seen.given.1 t.too_short.ensures c.before.if1.true
+    prepared_short s.args.text.now (lent s) l.look.ensures h.seen.given.1 t.too_short.ensures c.before.if1.true
     c.no_room.ensures
 
 fill-requires : tie.Need-fill-requires
@@ -74,7 +74,7 @@ returns-3 c =
     let h = t.before.before.before.before.before in
     let l = h.before.before in
     let s = l.before.before.before.before.before in
-    prepared-made s.args.text.now (lent s) l.look.ensures h.seen.given.1 t.too_short.ensures e.if1.false f.fill.ensures
+    prepared_made s.args.text.now (lent s) l.look.ensures h.seen.given.1 t.too_short.ensures e.if1.false f.fill.ensures
 
 pub prepare-spec : {M : Type 1} → statement M
 prepare-spec =

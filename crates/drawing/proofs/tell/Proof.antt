@@ -1,6 +1,6 @@
 -- `drawing::tell` meets its contract: the one line of a refusal, or a line of the result.
 use borrow.Author.Rules.{rules}
-use Rattle.drawing.proofs.Preparing.{tell-first, tell-past, tell-result}
+use Rattle.drawing.proofs.Preparing.{tell_first, tell_past, tell_result}
 use Rattle.drawing.proofs.tell.Statement.{statement}
 use Rattle.drawing.proofs.tell.Tie as tie
 
@@ -13,7 +13,7 @@ enum_told c = search rules
 returns : tie.Need-returns
 returns c =
     let s = c.before.before.before.before.before.before.before in
-    tell-past s.args.out.now c.before.enum_told.given.1 c.if1.true
+    tell_past s.args.out.now c.before.enum_told.given.1 c.if1.true
 
 refusal-requires : tie.Need-refusal-requires
 refusal-requires c κs = search rules
@@ -28,7 +28,7 @@ returns-2 : tie.Need-returns-2
 returns-2 c =
     let told = c.before.before.before.before.before in
     let is = told.before.enum_told.given.1 in
-    tell-first is told.if1.false (rw (c.before.before.before.before.refusal.ensures, is) at c.before.before.refusal-line.ensures)
+    tell_first is told.if1.false (rw (c.before.before.before.before.refusal.ensures, is) at c.before.before.refusal_line.ensures)
 
 line-requires : tie.Need-line-requires
 line-requires c κs = search rules
@@ -37,7 +37,7 @@ same-length-2 : tie.Need-same-length-2
 same-length-2 c = search rules
 
 returns-3 : tie.Need-returns-3
-returns-3 c = tell-result c.before.before.before.before.before.prepared.given.1 c.before.before.line.ensures
+returns-3 c = tell_result c.before.before.before.before.before.prepared.given.1 c.before.before.line.ensures
 
 pub tell-spec : {M : Type 1} → statement M
 tell-spec =

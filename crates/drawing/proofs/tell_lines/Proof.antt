@@ -1,6 +1,6 @@
 -- `drawing::tell_lines` meets its contract: the one line of a refusal, or lines of the result.
 use borrow.Author.Rules.{rules}
-use Rattle.drawing.proofs.Preparing.{lines-of-refusal, lines-of-result}
+use Rattle.drawing.proofs.Preparing.{lines_of_refusal, lines_of_result}
 use Rattle.drawing.proofs.tell_lines.Statement.{statement}
 use Rattle.drawing.proofs.tell_lines.Tie as tie
 
@@ -22,7 +22,7 @@ same_length c = search rules
 returns : tie.Need-returns
 returns c =
     let is = c.before.before.before.before.before.enum_told.given.1 in
-    lines-of-refusal is (rw (c.before.before.before.before.refusal.ensures, is) at c.before.before.refusal-lines.ensures)
+    lines_of_refusal is (rw (c.before.before.before.before.refusal.ensures, is) at c.before.before.refusal_lines.ensures)
 
 lines-requires : tie.Need-lines-requires
 lines-requires c κs = search rules
@@ -31,7 +31,7 @@ same-length-2 : tie.Need-same-length-2
 same-length-2 c = search rules
 
 returns-2 : tie.Need-returns-2
-returns-2 c = lines-of-result c.before.before.before.before.before.prepared.given.1 c.before.before.lines.ensures
+returns-2 c = lines_of_result c.before.before.before.before.before.prepared.given.1 c.before.before.lines.ensures
 
 pub tell-lines-spec : {M : Type 1} → statement M
 tell-lines-spec =

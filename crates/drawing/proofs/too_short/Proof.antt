@@ -5,10 +5,10 @@ use mathlib.Core.Bool.{Bool, true, false, ◌||◌}
 use borrow.Author.Rules.{rules}
 use lib.Dec.{ltb}
 use lib.ListN.{length}
-use Rattle.model.proofs.Lists.{true-or-false}
-use Rattle.frames.proofs.Tests.{neither-true}
+use Rattle.model.proofs.Lists.{true_or_false}
+use Rattle.frames.proofs.Tests.{neither_true}
 use Rattle.rows.specs.Row.{too_short}
-use Rattle.drawing.specs.Prepared.{any-short}
+use Rattle.drawing.specs.Prepared.{any_short}
 use Rattle.drawing.proofs.too_short.Statement.{statement}
 use Rattle.drawing.proofs.too_short.Tie as tie
 
@@ -35,20 +35,20 @@ first_two c =
     c.if1.branch
 
 module _ (a b c : Bool) where
-  one-short : (a || b) ≡ true → (a || (b || c)) ≡ true
-  one-short h = ⊎_elim (λ t. rw t) (λ t. rw t (rw (rw t at h))) (true-or-false a)
+  one_short : (a || b) ≡ true → (a || (b || c)) ≡ true
+  one_short h = ⊎_elim (λ t. rw t) (λ t. rw t (rw (rw t at h))) (true_or_false a)
 
   third-left : (a || b) ≡ false → (a || (b || c)) ≡ c
-  third-left h = let t = neither-true a b h in rw (t.0, t.1)
+  third-left h = let t = neither_true a b h in rw (t.0, t.1)
 
 returns : tie.Need-returns
-unfolding any-short
+unfolding any_short
 returns c =
     let s = c.before.before.before.before.before.before in
-    c.if2.true ∙ sym (one-short (row-short s) (labels-short s) (marks-short s) (sym (first_two c.before) ∙ c.if2.true))
+    c.if2.true ∙ sym (one_short (row-short s) (labels-short s) (marks-short s) (sym (first_two c.before) ∙ c.if2.true))
 
 returns-2 : tie.Need-returns-2
-unfolding any-short
+unfolding any_short
 returns-2 c =
     let s = c.before.before.before.before.before.before in
     sym (third-left (row-short s) (labels-short s) (marks-short s) (sym (first_two c.before) ∙ c.if2.false))

@@ -6,8 +6,8 @@ use lib.ListN.{replicate}
 use borrow.Author.Rules.{rules}
 use Rattle.drawing.specs.Headline.{Ample}
 use Rattle.drawing.specs.Prepared.{lent_of}
-use Rattle.exports.specs.Exported.{line-told}
-use Rattle.exports.proofs.Lines.{line-out}
+use Rattle.exports.specs.Exported.{line_told}
+use Rattle.exports.proofs.Lines.{line_out}
 use Rattle.exports.proofs.lykophene_line.Statement.{statement}
 use Rattle.exports.proofs.lykophene_line.Tie as tie
 
@@ -55,23 +55,23 @@ same_length : tie.Need-same-length
 same_length c = search rules
 
 returns : tie.Need-returns
-unfolding line-told
+unfolding line_told
 returns c =
     let w = c.before.before in
     let t = w.before.before.before.before in
     let p = t.before.before.before.before.before.before.before.before in
-    line-out ample p.prepare.ensures t.tell.ensures (c.done.ensures ∙ sym (ap line-told w.written.given.1))
+    line_out ample p.prepare.ensures t.tell.ensures (c.done.ensures ∙ sym (ap line_told w.written.given.1))
 
 same-length-2 : tie.Need-same-length-2
 same-length-2 c = search rules
 
 returns-2 : tie.Need-returns-2
-unfolding line-told
+unfolding line_told
 returns-2 c =
     let w = c.before.before in
     let t = w.before.before.before.before in
     let p = t.before.before.before.before.before.before.before.before in
-    line-out ample p.prepare.ensures t.tell.ensures (c.refused.ensures ∙ sym (ap line-told w.written2.given.1))
+    line_out ample p.prepare.ensures t.tell.ensures (c.refused.ensures ∙ sym (ap line_told w.written2.given.1))
 
 pub lykophene-line-spec : {M : Type 1} → statement M
 lykophene-line-spec =

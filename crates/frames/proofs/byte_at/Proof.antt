@@ -2,8 +2,8 @@
 use Prim.Native.Nat.{◌+◌}
 use native.Mathlib.Omega.{arith}
 use borrow.Author.Rules.{rules}
-use Rattle.frames.specs.Frames.{byte-from}
-use Rattle.frames.proofs.Numbers.{digit-at-most}
+use Rattle.frames.specs.Frames.{byte_from}
+use Rattle.frames.proofs.Numbers.{digit_at_most}
 use Rattle.frames.proofs.byte_at.Statement.{statement}
 use Rattle.frames.proofs.byte_at.Tie as tie
 
@@ -13,7 +13,7 @@ digit-at-requires c κs = search rules
 mul-result : tie.Need-overflow-mul-result
 mul-result c =
     let a = c.before.before.args in
-    omega (arith, digit-at-most a.text.now a.k)
+    omega (arith, digit_at_most a.text.now a.k)
 
 add-digit-at : tie.Need-overflow-add-digit-at
 add-digit-at c = search rules
@@ -24,10 +24,10 @@ digit-at-requires-2 c κs = search rules
 add-result : tie.Need-overflow-add-result
 add-result c =
     let a = c.before.before.before.args in
-    omega (arith, digit-at-most a.text.now a.k, digit-at-most a.text.now (a.k + 1))
+    omega (arith, digit_at_most a.text.now a.k, digit_at_most a.text.now (a.k + 1))
 
 returns : tie.Need-returns
-unfolding byte-from
+unfolding byte_from
 returns c = cc
 
 pub byte-at-spec : {M : Type 1} → statement M

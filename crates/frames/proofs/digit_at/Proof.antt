@@ -2,7 +2,7 @@
 use mathlib.Core.Path.{sym}
 use borrow.Author.Rules.{rules}
 use Rattle.frames.specs.Frames.{digit_at}
-use Rattle.frames.proofs.Numbers.{digit-past}
+use Rattle.frames.proofs.Numbers.{digit_past}
 use Rattle.frames.proofs.digit_at.Statement.{statement}
 use Rattle.frames.proofs.digit_at.Tie as tie
 
@@ -25,7 +25,7 @@ returns c = c.digit.ensures
 returns-2 : tie.Need-returns-2
 returns-2 c =
     let a = c.before.before.args in
-    sym (digit-past a.text.now a.k c.if1.false)
+    sym (digit_past a.text.now a.k c.if1.false)
 
 pub digit-at-spec : {M : Type 1} → statement M
 digit-at-spec =

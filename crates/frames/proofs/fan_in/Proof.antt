@@ -6,8 +6,8 @@ use native.Mathlib.Omega.{arith}
 use borrow.Author.Rules.{rules}
 use borrow.Author.Tests.{ltb-true, ltb-false}
 use lib.ListN.{length}
-use Rattle.frames.specs.Frames.{fan-in-from}
-use Rattle.frames.proofs.Numbers.{word-most, word-past}
+use Rattle.frames.specs.Frames.{fan_in_from}
+use Rattle.frames.proofs.Numbers.{word_most, word_past}
 use Rattle.frames.proofs.fan_in.Statement.{statement}
 use Rattle.frames.proofs.fan_in.Tie as tie
 
@@ -29,19 +29,19 @@ word-at-requires c κs = omega (arith, ltb-true)
 cast-result : tie.Need-overflow-cast-result
 cast-result c =
     let a = c.before.before.before.before.args in
-    omega (arith, word-most a.text.now (a.at + 12 + 4 * a.i))
+    omega (arith, word_most a.text.now (a.at + 12 + 4 * a.i))
 
 returns : tie.Need-returns
-unfolding fan-in-from
+unfolding fan_in_from
 returns c = c.word_at.ensures
 
 returns-2 : tie.Need-returns-2
-unfolding fan-in-from
+unfolding fan_in_from
 returns-2 c =
     let a = c.before.before.args in
     let past : length a.text.now ≤ a.at + 12 + 4 * a.i =
     ⊎_elim (λ w. omega (arith, ltb-false)) (λ w. omega (arith, ltb-false)) c.if1.branch in
-    sym (word-past a.text.now (a.at + 12 + 4 * a.i) past)
+    sym (word_past a.text.now (a.at + 12 + 4 * a.i) past)
 
 pub fan-in-spec : {M : Type 1} → statement M
 fan-in-spec =

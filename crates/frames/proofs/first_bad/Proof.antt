@@ -7,14 +7,14 @@ use borrow.Author.Rules.{rules}
 use borrow.Author.Tests.{eqb-true, eqb-false, not-true, not-false}
 use lib.ListN.{get_or}
 use lib.Seq.{slice}
-use Rattle.frames.specs.Text.{digits-before}
-use Rattle.frames.proofs.Numbers.{digit-most}
-use Rattle.frames.proofs.Walks.{before-past, before-bad, before_more}
+use Rattle.frames.specs.Text.{digits_before}
+use Rattle.frames.proofs.Numbers.{digit_most}
+use Rattle.frames.proofs.Walks.{before_past, before_bad, before_more}
 use Rattle.frames.proofs.first_bad.Statement.{statement}
 use Rattle.frames.proofs.first_bad.Tie as tie
 
 abbrev invariant-loop : tie.invariant-loop
-invariant-loop text at end i₀ i = (i ≤ end) × (i + digits-before (slice i end text) ≡ at + digits-before (slice at end text))
+invariant-loop text at end i₀ i = (i ≤ end) × (i + digits_before (slice i end text) ≡ at + digits_before (slice at end text))
 
 abbrev decreases-loop : tie.decreases-loop
 decreases-loop text at end i₀ i = end - i
@@ -40,19 +40,19 @@ loop-again c =
     let i = c.before.before.before.before.loop.i in
     let other : c.before.digit.result ≡ 16 → ⊥ = eqb-false _ _ (not-true _ c.if1.true) in
     omega
-    (arith, before_more a.text.now i a.end (search rules) (search rules) (omega (arith, digit-most (get_or a.text.now i 0), c.before.digit.ensures)))
+    (arith, before_more a.text.now i a.end (search rules) (search rules) (omega (arith, digit_most (get_or a.text.now i 0), c.before.digit.ensures)))
 
 returns : tie.Need-returns invariant-loop decreases-loop
 returns c =
     let a = c.before.before.before.before.before.before.args in
     let i = c.before.before.before.before.loop.i in
     let bad : c.before.digit.result ≡ 16 = eqb-true _ _ (not-false _ c.if1.false) in
-    omega (arith, before-bad a.text.now i a.end (search rules) (search rules) (sym c.before.digit.ensures ∙ bad))
+    omega (arith, before_bad a.text.now i a.end (search rules) (search rules) (sym c.before.digit.ensures ∙ bad))
 
 returns-2 : tie.Need-returns-2 invariant-loop decreases-loop
 returns-2 c =
     let a = c.before.before.before.args in
-    omega (arith, before-past a.text.now c.before.loop.i a.end (search rules))
+    omega (arith, before_past a.text.now c.before.loop.i a.end (search rules))
 
 pub first-bad-spec : {M : Type 1} → statement M
 first-bad-spec =

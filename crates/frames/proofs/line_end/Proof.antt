@@ -5,13 +5,13 @@ use native.Mathlib.Omega.{arith}
 use borrow.Author.Rules.{rules}
 use borrow.Author.Tests.{eqb-true, eqb-false, not-true, not-false}
 use lib.ListN.{length, drop}
-use Rattle.frames.specs.steps.Cut.{line-length}
-use Rattle.frames.proofs.Walks.{length-past, length-feed, length_more}
+use Rattle.frames.specs.steps.Cut.{line_length}
+use Rattle.frames.proofs.Walks.{length_past, length_feed, length_more}
 use Rattle.frames.proofs.line_end.Statement.{statement}
 use Rattle.frames.proofs.line_end.Tie as tie
 
 abbrev invariant-loop : tie.invariant-loop
-invariant-loop text at i₀ i = (i ≤ length text) × (i + line-length (drop i text) ≡ at + line-length (drop at text))
+invariant-loop text at i₀ i = (i ≤ length text) × (i + line_length (drop i text) ≡ at + line_length (drop at text))
 
 abbrev decreases-loop : tie.decreases-loop
 decreases-loop text at i₀ i = length text - i
@@ -38,10 +38,10 @@ returns : tie.Need-returns invariant-loop decreases-loop
 returns c =
     let t = c.before.before.before.before.args.text.now in
     let i = c.before.before.before.loop.i in
-    omega (arith, length-feed t i c.before.before.loop-test.true (eqb-true _ _ (not-false _ c.if1.false)))
+    omega (arith, length_feed t i c.before.before.loop-test.true (eqb-true _ _ (not-false _ c.if1.false)))
 
 returns-2 : tie.Need-returns-2 invariant-loop decreases-loop
-returns-2 c = omega (arith, length-past c.before.before.args.text.now c.before.loop.i c.loop-test.false)
+returns-2 c = omega (arith, length_past c.before.before.args.text.now c.before.loop.i c.loop-test.false)
 
 pub line-end-spec : {M : Type 1} → statement M
 line-end-spec =

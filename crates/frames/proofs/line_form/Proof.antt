@@ -3,7 +3,7 @@ use borrow.Author.Rules.{rules}
 use mathlib.Core.Path.{◌∙◌, ap}
 use native.Mathlib.Omega.{arith}
 use Rattle.frames.specs.declared.Form.TheVariants.{Wrong}
-use Rattle.frames.proofs.Formed.{found-empty, found-bad, found-odd, found-open, found_right}
+use Rattle.frames.proofs.Formed.{found_empty, found_bad, found_odd, found_open, found_right}
 use Rattle.frames.proofs.line_form.Statement.{statement}
 use Rattle.frames.proofs.line_form.Tie as tie
 
@@ -13,7 +13,7 @@ at-line-requires c κs = search rules
 returns : tie.Need-returns
 returns c =
     let a = c.before.before.before.args in
-    ap Wrong c.at-line.ensures ∙ found-empty a.text.now a.at a.end a.line (omega arith)
+    ap Wrong c.at_line.ensures ∙ found_empty a.text.now a.at a.end a.line (omega arith)
 
 first-bad-requires : tie.Need-first-bad-requires
 first-bad-requires c κs = search rules
@@ -31,8 +31,8 @@ returns-2 : tie.Need-returns-2
 returns-2 c =
     let s = c.before.before.before.before.before in
     let a = s.args in
-    ap Wrong c.at-column.ensures
-    ∙ found-bad a.text.now a.at a.end a.line c.before.before.first-bad.result (omega (arith, s.requires)) s.requires.1 c.before.before.first-bad.ensures c.before.if2.true
+    ap Wrong c.at_column.ensures
+    ∙ found_bad a.text.now a.at a.end a.line c.before.before.first-bad.result (omega (arith, s.requires)) s.requires.1 c.before.before.first-bad.ensures c.before.if2.true
 
 sub-odd : tie.Need-overflow-sub-odd
 sub-odd c = search rules
@@ -45,7 +45,7 @@ returns-3 c =
     let s = c.before.before.before.before.before.before in
     let a = s.args in
     ap Wrong c.at-line2.ensures
-    ∙ found-odd a.text.now a.at a.end a.line c.before.before.before.first-bad.result (omega (arith, s.requires)) s.requires.1 c.before.before.before.first-bad.ensures (omega arith) (omega arith)
+    ∙ found_odd a.text.now a.at a.end a.line c.before.before.before.first-bad.result (omega (arith, s.requires)) s.requires.1 c.before.before.before.first-bad.ensures (omega arith) (omega arith)
 
 at-line-requires-3 : tie.Need-at-line-requires-3
 at-line-requires-3 c κs = search rules
@@ -55,7 +55,7 @@ returns-4 c =
     let s = c.before.before.before.before.before.before.before in
     let a = s.args in
     ap Wrong c.at-line3.ensures
-    ∙ found-open a.text.now a.at a.end a.line c.before.before.before.before.first-bad.result (omega (arith, s.requires)) s.requires.1 c.before.before.before.before.first-bad.ensures (omega arith) (omega arith) (omega arith)
+    ∙ found_open a.text.now a.at a.end a.line c.before.before.before.before.first-bad.result (omega (arith, s.requires)) s.requires.1 c.before.before.before.before.first-bad.ensures (omega arith) (omega arith) (omega arith)
 
 returns-5 : tie.Need-returns-5
 returns-5 c =

@@ -2,8 +2,8 @@
 use Prim.Native.Nat.{◌+◌}
 use native.Mathlib.Omega.{arith}
 use borrow.Author.Rules.{rules}
-use Rattle.frames.specs.steps.Cut.{long-from}
-use Rattle.frames.proofs.Numbers.{word-most}
+use Rattle.frames.specs.steps.Cut.{long_from}
+use Rattle.frames.proofs.Numbers.{word_most}
 use Rattle.frames.proofs.long_at.Statement.{statement}
 use Rattle.frames.proofs.long_at.Tie as tie
 
@@ -13,7 +13,7 @@ word-at-requires c κs = search rules
 mul-result : tie.Need-overflow-mul-result
 mul-result c =
     let a = c.before.before.args in
-    omega (arith, word-most a.text.now a.k)
+    omega (arith, word_most a.text.now a.k)
 
 add-word-at : tie.Need-overflow-add-word-at
 add-word-at c = search rules
@@ -24,10 +24,10 @@ word-at-requires-2 c κs = search rules
 add-result : tie.Need-overflow-add-result
 add-result c =
     let a = c.before.before.before.args in
-    omega (arith, word-most a.text.now a.k, word-most a.text.now (a.k + 4))
+    omega (arith, word_most a.text.now a.k, word_most a.text.now (a.k + 4))
 
 returns : tie.Need-returns
-unfolding long-from
+unfolding long_from
 returns c = cc
 
 pub long-at-spec : {M : Type 1} → statement M

@@ -3,7 +3,7 @@ use borrow.Author.Rules.{rules}
 use mathlib.Core.Path.{◌∙◌}
 use native.Mathlib.Omega.{arith}
 use Rattle.frames.proofs.Formed.{formed}
-use Rattle.frames.proofs.AfterHeader.{gates-3}
+use Rattle.frames.proofs.AfterHeader.{gates_3}
 use Rattle.frames.proofs.read_after_header.Statement.{statement}
 use Rattle.frames.proofs.read_after_header.Tie as tie
 
@@ -31,7 +31,7 @@ returns-3 : tie.Need-returns-3
 returns-3 c =
     let s = c.before.before.before.before.before in
     c.refused.ensures
-    ∙ gates-3 s.args.text.now s.args.at s.args.end s.args.gates s.args.line s.requires
+    ∙ gates_3 s.args.text.now s.args.at s.args.end s.args.gates s.args.line s.requires
     (omega arith)
     (omega arith)
 

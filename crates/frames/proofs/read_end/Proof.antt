@@ -3,7 +3,7 @@ use borrow.Author.Rules.{rules}
 use mathlib.Core.Path.{◌∙◌}
 use native.Mathlib.Omega.{arith}
 use Rattle.frames.proofs.Formed.{Formed, formed}
-use Rattle.frames.proofs.End.{end-4, end-7, end-8, end_read}
+use Rattle.frames.proofs.End.{end_4, end_7, end_8, end_read}
 use Rattle.frames.proofs.read_end.Statement.{statement}
 use Rattle.frames.proofs.read_end.Tie as tie
 
@@ -20,7 +20,7 @@ returns : tie.Need-returns
 returns c =
     let s = c.before.before.before in
     c.refused.ensures
-    ∙ end-4 s.args.text.now s.args.at s.args.end s.args.gates s.args.line s.requires.0 s.requires.1 (omega arith)
+    ∙ end_4 s.args.text.now s.args.at s.args.end s.args.gates s.args.line s.requires.0 s.requires.1 (omega arith)
 
 add-word-at : tie.Need-overflow-add-word-at
 add-word-at c = search rules
@@ -35,7 +35,7 @@ returns-2 : tie.Need-returns-2
 returns-2 c =
     let s = c.before.before.before.before.before in
     c.refused2.ensures
-    ∙ end-7 s.args.text.now s.args.at s.args.end s.args.gates s.args.line s.requires.0 s.requires.1 (omega arith) (omega arith)
+    ∙ end_7 s.args.text.now s.args.at s.args.end s.args.gates s.args.line s.requires.0 s.requires.1 (omega arith) (omega arith)
 
 refused-requires-3 : tie.Need-refused-requires-3
 refused-requires-3 c κs = search rules
@@ -44,7 +44,7 @@ returns-3 : tie.Need-returns-3
 returns-3 c =
     let s = c.before.before.before.before.before.before in
     c.refused3.ensures
-    ∙ end-8 s.args.text.now s.args.at s.args.end s.args.gates s.args.line s.requires.0 s.requires.1 (omega arith) (omega arith) (omega arith)
+    ∙ end_8 s.args.text.now s.args.at s.args.end s.args.gates s.args.line s.requires.0 s.requires.1 (omega arith) (omega arith) (omega arith)
 
 add-t6 : tie.Need-overflow-add-t6
 add-t6 c = omega (arith, form c.before.before.before.before.before)

@@ -4,15 +4,15 @@ use borrow.Author.Rules.{rules}
 use mathlib.Core.Path.{◌≡◌, sym, ◌∙◌}
 use Rattle.frames.specs.declared.Place.{Place}
 use Rattle.frames.specs.Frames.{judged}
-use Rattle.frames.specs.steps.Cut.{line-from}
-use Rattle.frames.proofs.Rows.{closed-3}
+use Rattle.frames.specs.steps.Cut.{line_from}
+use Rattle.frames.proofs.Rows.{closed_3}
 use Rattle.frames.proofs.read_formed.Statement.{statement}
 use Rattle.frames.proofs.read_formed.Tie as tie
 
 -- The place that a branch stands for is the one that was asked for.
 placed : (s : tie.Start) {p : Place} → s.args.place ≡ p
-    → judged s.args.at p s.args.line (line-from s.args.text.now s.args.at s.args.end)
-    ≡ judged s.args.at s.args.place s.args.line (line-from s.args.text.now s.args.at s.args.end)
+    → judged s.args.at p s.args.line (line_from s.args.text.now s.args.at s.args.end)
+    ≡ judged s.args.at s.args.place s.args.line (line_from s.args.text.now s.args.at s.args.end)
 placed s e = rw e
 
 enum_told : tie.Need-enum-told
@@ -42,8 +42,8 @@ returns-2 c = c.read-after-header.ensures ∙ placed c.before.before.before.befo
 returns-3 : tie.Need-returns-3
 returns-3 c =
     let s = c.before.before.before.before in
-    let l = line-from s.args.text.now s.args.at s.args.end in
-    c.refused.ensures ∙ sym (closed-3 s.args.at s.args.line l s.requires) ∙ placed s c.before.enum-told2.given.1
+    let l = line_from s.args.text.now s.args.at s.args.end in
+    c.refused.ensures ∙ sym (closed_3 s.args.at s.args.line l s.requires) ∙ placed s c.before.enum-told2.given.1
 
 pub read-formed-spec : {M : Type 1} → statement M
 read-formed-spec =

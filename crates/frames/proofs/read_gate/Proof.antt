@@ -5,17 +5,17 @@ use Prim.Native.Nat.{ℕ, ◌+◌, ◌*◌, ◌-◌, ◌^◌, ◌≤◌, ◌<◌
 use mathlib.Core.Path.{◌≡◌, sym, ap, ◌∙◌}
 use mathlib.Core.Bool.{Bool}
 use native.Mathlib.Omega.{arith}
-use Rattle.model.specs.Ceilings.{most-fanins, most-gates}
-use Rattle.units.proofs.Makers.{weighed-made, weighed-above, delayed-made, delayed-above, counted-made, counted-above, numbered-made, numbered-above}
+use Rattle.model.specs.Ceilings.{most_fanins, most_gates}
+use Rattle.units.proofs.Makers.{weighed_made, weighed_above, delayed_made, delayed_above, counted_made, counted_above, numbered_made, numbered_above}
 use borrow.Author.Tests.{not-true, not-false}
 use lib.Seq.{slice}
 use Rattle.frames.specs.Text.{bytes, words}
-use Rattle.frames.specs.Table.{rising-from}
-use Rattle.frames.specs.Frames.{byte-from, word-from}
+use Rattle.frames.specs.Table.{rising_from}
+use Rattle.frames.specs.Frames.{byte_from, word_from}
 use Rattle.frames.proofs.Formed.{Formed, formed}
-use Rattle.frames.proofs.Numbers.{byte-most}
-use Rattle.frames.proofs.OfLine.{weight-most, delay-most}
-use Rattle.frames.proofs.Gate.{gate-4-count, gate-4-length, gate-5, gate-6, gate-read, same-gate}
+use Rattle.frames.proofs.Numbers.{byte_most}
+use Rattle.frames.proofs.OfLine.{weight_most, delay_most}
+use Rattle.frames.proofs.Gate.{gate_4_count, gate_4_length, gate_5, gate_6, gate_read, same_gate}
 use Rattle.frames.proofs.read_gate.Statement.{statement}
 use Rattle.frames.proofs.read_gate.Tie as tie
 
@@ -42,32 +42,32 @@ abbrev weigh : tie.After-delay → tie.After-weight
 weigh c = (weighed c).before.before
 
 -- The byte that counts the fan-ins.
-abbrev fan-ins : tie.Start → ℕ
-fan-ins s = byte-from s.args.text.now (s.args.at + 10)
+abbrev fan_ins : tie.Start → ℕ
+fan_ins s = byte_from s.args.text.now (s.args.at + 10)
 
 -- The line has as many digits as that asks for, and the next one begins at a place that 64 bits hold.
-long : (c : tie.Else1) → let s = start c.before.before in s.args.end - s.args.at ≡ 12 + 4 * fan-ins s
+long : (c : tie.Else1) → let s = start c.before.before in s.args.end - s.args.at ≡ 12 + 4 * fan_ins s
 long c = omega arith
 
 next : (s : tie.Start) → s.args.end + 1 < 2 ^ 64
 next s = omega (arith, form s)
 
 -- A count that was made is that byte, and at most the ceiling.
-count-made : (c : tie.After-count) → (fan-ins (start c) ≤ most-fanins) × (c.count.given.0.0.0 ≡ fan-ins (start c))
+count-made : (c : tie.After-count) → (fan_ins (start c) ≤ most_fanins) × (c.count.given.0.0.0 ≡ fan_ins (start c))
 count-made c =
-    let m = counted-made c.before.before.before.byte_at.result c.count.given.0.0 (sym c.before.before.new.ensures ∙ c.count.given.1) in
+    let m = counted_made c.before.before.before.byte_at.result c.count.given.0.0 (sym c.before.before.new.ensures ∙ c.count.given.1) in
     (omega arith, omega arith)
 
 -- A gate number that was made is the number of gates so far, and below the ceiling.
 gate-made : (c : tie.After-gate)
     → let gates = (start (counted c)).args.gates in
-    (gates < most-gates) × (c.gate.given.0.0.0 ≡ gates)
+    (gates < most_gates) × (c.gate.given.0.0.0 ≡ gates)
 gate-made c =
-    numbered-made (start (counted c)).args.gates c.gate.given.0.0 (sym c.before.before.new2.ensures ∙ c.gate.given.1)
+    numbered_made (start (counted c)).args.gates c.gate.given.0.0 (sym c.before.before.new2.ensures ∙ c.gate.given.1)
 
 -- What `rising` tested are the fan-ins of the line, against the number of gates so far.
 abbrev rises : tie.Start → ℕ → Bool
-rises s gates = rising-from 0 gates (words (bytes (slice (s.args.at + 12) s.args.end s.args.text.now)))
+rises s gates = rising_from 0 gates (words (bytes (slice (s.args.at + 12) s.args.end s.args.text.now)))
 
 fan-ins-tested : (c : tie.After-rising) → let s = start (counted c.before.before) in rises s s.args.gates ≡ c.rising.result
 fan-ins-tested c = ap (rises (start (counted c.before.before))) (sym (gate-made c.before.before).1) ∙ sym c.rising.ensures
@@ -75,34 +75,34 @@ fan-ins-tested c = ap (rises (start (counted c.before.before))) (sym (gate-made 
 -- A weight or a delay that was made is the one in the text, and one that was not made would lie above what two bytes say.
 weight-made : (c : tie.After-weight2)
     → let a = (start (counted (numbered c.before.before))).args in
-    c.weight2.given.0.0.0 ≡ word-from a.text.now (a.at + 2)
+    c.weight2.given.0.0.0 ≡ word_from a.text.now (a.at + 2)
 weight-made c =
     let call = c.before.before in
-    (weighed-made call.before.word_at.result c.weight2.given.0.0 (sym call.weight.ensures ∙ c.weight2.given.1)).1
+    (weighed_made call.before.word_at.result c.weight2.given.0.0 (sym call.weight.ensures ∙ c.weight2.given.1)).1
     ∙ call.before.word_at.ensures
 
 weight-above : tie.After-enum-told3 → ⊥
 weight-above c =
     let call = c.before.before in
     let s = start (counted (numbered call)) in
-    let above = weighed-above call.before.word_at.result (sym call.weight.ensures ∙ c.enum-told3.given.1) in
-    let most = weight-most s.args.text.now s.args.at s.args.end s.pre.0 (omega (arith, long (tested (numbered call)))) in
+    let above = weighed_above call.before.word_at.result (sym call.weight.ensures ∙ c.enum-told3.given.1) in
+    let most = weight_most s.args.text.now s.args.at s.args.end s.pre.0 (omega (arith, long (tested (numbered call)))) in
     omega (arith, call.before.word_at.ensures)
 
 delay-made : (c : tie.After-delay2)
     → let a = (start (counted (numbered (weigh c.before.before)))).args in
-    c.delay2.given.0.0.0 ≡ word-from a.text.now (a.at + 6)
+    c.delay2.given.0.0.0 ≡ word_from a.text.now (a.at + 6)
 delay-made c =
     let call = c.before.before in
-    (delayed-made call.before.word-at2.result c.delay2.given.0.0 (sym call.delay.ensures ∙ c.delay2.given.1)).1
+    (delayed_made call.before.word-at2.result c.delay2.given.0.0 (sym call.delay.ensures ∙ c.delay2.given.1)).1
     ∙ call.before.word-at2.ensures
 
 delay-above : tie.After-enum-told4 → ⊥
 delay-above c =
     let call = c.before.before in
     let s = start (counted (numbered (weigh call))) in
-    let above = delayed-above call.before.word-at2.result (sym call.delay.ensures ∙ c.enum-told4.given.1) in
-    let most = delay-most s.args.text.now s.args.at s.args.end s.pre.0 (omega (arith, long (tested (numbered (weigh call))))) in
+    let above = delayed_above call.before.word-at2.result (sym call.delay.ensures ∙ c.enum-told4.given.1) in
+    let most = delay_most s.args.text.now s.args.at s.args.end s.pre.0 (omega (arith, long (tested (numbered (weigh call))))) in
     omega (arith, call.before.word-at2.ensures)
 
 add-byte-at : tie.Need-overflow-add-byte-at
@@ -127,17 +127,17 @@ returns : tie.Need-returns
 returns c =
     let s = c.before.before.before.before.before.before in
     c.refused.ensures
-    ∙ gate-4-count s.args.text.now s.args.at s.args.end s.args.gates s.args.line s.requires.0 s.requires.1
-    (omega (arith, counted-above c.before.before.before.before.byte_at.result (sym c.before.before.before.new.ensures ∙ c.before.enum_told.given.1)))
+    ∙ gate_4_count s.args.text.now s.args.at s.args.end s.args.gates s.args.line s.requires.0 s.requires.1
+    (omega (arith, counted_above c.before.before.before.before.byte_at.result (sym c.before.before.before.new.ensures ∙ c.before.enum_told.given.1)))
 
 sub-if1 : tie.Need-overflow-sub-if1
 sub-if1 c = omega (arith, form (start c.before))
 
 mul-if1 : tie.Need-overflow-mul-if1
-mul-if1 c = let a = (start c.before).args in omega (arith, byte-most a.text.now (a.at + 10))
+mul-if1 c = let a = (start c.before).args in omega (arith, byte_most a.text.now (a.at + 10))
 
 add-if1 : tie.Need-overflow-add-if1
-add-if1 c = let a = (start c.before).args in omega (arith, byte-most a.text.now (a.at + 10))
+add-if1 c = let a = (start c.before).args in omega (arith, byte_most a.text.now (a.at + 10))
 
 refused-requires-2 : tie.Need-refused-requires-2
 refused-requires-2 c κs = search rules
@@ -146,7 +146,7 @@ returns-2 : tie.Need-returns-2
 returns-2 c =
     let s = start c.before.before.before in
     c.refused2.ensures
-    ∙ gate-4-length s.args.text.now s.args.at s.args.end s.args.gates s.args.line s.pre.0 s.pre.1 (omega arith)
+    ∙ gate_4_length s.args.text.now s.args.at s.args.end s.args.gates s.args.line s.pre.0 s.pre.1 (omega arith)
 
 new-requires-2 : tie.Need-new-requires-2
 new-requires-2 c κs = search rules
@@ -166,10 +166,10 @@ returns-3 c =
     let count = call.before.before.before in
     let s = start count in
     c.refused3.ensures
-    ∙ gate-5 s.args.text.now s.args.at s.args.end s.args.gates s.args.line s.pre.0 s.pre.1
+    ∙ gate_5 s.args.text.now s.args.at s.args.end s.args.gates s.args.line s.pre.0 s.pre.1
     (count-made count).0
     (omega arith)
-    (numbered-above s.args.gates (sym call.new2.ensures ∙ c.before.enum-told2.given.1))
+    (numbered_above s.args.gates (sym call.new2.ensures ∙ c.before.enum-told2.given.1))
 
 add-rising : tie.Need-overflow-add-rising
 add-rising c = search rules
@@ -186,7 +186,7 @@ returns-4 c =
     let gate = rising.before.before in
     let s = start (counted gate) in
     c.refused4.ensures
-    ∙ gate-6 s.args.text.now s.args.at s.args.end s.args.gates s.args.line s.pre.0 s.pre.1
+    ∙ gate_6 s.args.text.now s.args.at s.args.end s.args.gates s.args.line s.pre.0 s.pre.1
     (count-made (counted gate)).0
     (long (tested gate))
     (gate-made gate).0
@@ -246,8 +246,8 @@ returns-7 c =
     let gate = numbered weight in
     let s = start (counted gate) in
     let count = count-made (counted gate) in
-    same-gate (s.args.end + 1) (weight-made (weighed call)) (delay-made delay) count.1
-    ∙ gate-read s.args.text.now s.args.at s.args.end s.args.gates s.args.line s.pre.0 s.pre.1
+    same_gate (s.args.end + 1) (weight-made (weighed call)) (delay-made delay) count.1
+    ∙ gate_read s.args.text.now s.args.at s.args.end s.args.gates s.args.line s.pre.0 s.pre.1
     count.0
     (long (tested gate))
     (gate-made gate).0

@@ -4,11 +4,11 @@ use borrow.Author.Rules.{rules}
 use Prim.Native.Nat.{◌+◌}
 use mathlib.Core.Path.{◌≡◌, sym, ◌∙◌}
 use native.Mathlib.Omega.{arith}
-use Rattle.units.proofs.Makers.{delayed-made, delayed-above}
-use Rattle.frames.specs.Frames.{word-from}
+use Rattle.units.proofs.Makers.{delayed_made, delayed_above}
+use Rattle.frames.specs.Frames.{word_from}
 use Rattle.frames.proofs.Formed.{formed}
-use Rattle.frames.proofs.OfLine.{hop-most}
-use Rattle.frames.proofs.Header.{header-3, header-4, header_read, same-header}
+use Rattle.frames.proofs.OfLine.{hop_most}
+use Rattle.frames.proofs.Header.{header_3, header_4, header_read, same_header}
 use Rattle.frames.proofs.read_header.Statement.{statement}
 use Rattle.frames.proofs.read_header.Tie as tie
 
@@ -16,18 +16,18 @@ abbrev start : tie.After-delay → tie.Start
 start c = c.before.before.before.before.before.before
 
 -- A D that was made is the one in the text, and one that was not made would lie above what two bytes say.
-hop-made : (c : tie.After-hop) → let a = (start c.before.before).args in c.hop.given.0.0.0 ≡ word-from a.text.now (a.at + 10)
+hop-made : (c : tie.After-hop) → let a = (start c.before.before).args in c.hop.given.0.0.0 ≡ word_from a.text.now (a.at + 10)
 hop-made c =
     let call = c.before.before in
-    (delayed-made call.before.word_at.result c.hop.given.0.0 (sym call.delay.ensures ∙ c.hop.given.1)).1
+    (delayed_made call.before.word_at.result c.hop.given.0.0 (sym call.delay.ensures ∙ c.hop.given.1)).1
     ∙ call.before.word_at.ensures
 
 hop-above : tie.After-enum-told → ⊥
 hop-above c =
     let call = c.before.before in
     let s = start call in
-    let above = delayed-above call.before.word_at.result (sym call.delay.ensures ∙ c.enum_told.given.1) in
-    let most = hop-most s.args.text.now s.args.at s.args.end s.pre (omega arith) in
+    let above = delayed_above call.before.word_at.result (sym call.delay.ensures ∙ c.enum_told.given.1) in
+    let most = hop_most s.args.text.now s.args.at s.args.end s.pre (omega arith) in
     omega (arith, call.before.word_at.ensures)
 
 byte-at-requires : tie.Need-byte-at-requires
@@ -42,7 +42,7 @@ returns : tie.Need-returns
 returns c =
     let s = c.before.before.before.before in
     c.refused.ensures
-    ∙ header-3 s.args.text.now s.args.at s.args.end s.args.line s.requires (omega arith)
+    ∙ header_3 s.args.text.now s.args.at s.args.end s.args.line s.requires (omega arith)
 
 sub-if2 : tie.Need-overflow-sub-if2
 sub-if2 c =
@@ -56,7 +56,7 @@ returns-2 : tie.Need-returns-2
 returns-2 c =
     let s = c.before.before.before.before.before in
     c.refused2.ensures
-    ∙ header-4 s.args.text.now s.args.at s.args.end s.args.line s.requires (omega arith) (omega arith)
+    ∙ header_4 s.args.text.now s.args.at s.args.end s.args.line s.requires (omega arith) (omega arith)
 
 add-word-at : tie.Need-overflow-add-word-at
 add-word-at c = search rules
@@ -94,7 +94,7 @@ returns-4 : tie.Need-returns-4
 returns-4 c =
     let made = c.before.before in
     let s = start made.before.before in
-    same-header (s.args.end + 1) c.long-at.ensures (hop-made made)
+    same_header (s.args.end + 1) c.long_at.ensures (hop-made made)
     ∙ header_read s.args.text.now s.args.at s.args.end s.args.line s.pre
     (omega arith)
     (omega arith)

@@ -5,16 +5,16 @@ use mathlib.Core.Path.{◌≡◌, sym, ◌∙◌}
 use native.Mathlib.Omega.{arith}
 use Rattle.frames.specs.declared.LineRead.TheVariants.{Refused}
 use Rattle.frames.specs.Frames.{judged, line_read}
-use Rattle.frames.specs.steps.Cut.{line-from, form-found}
-use Rattle.frames.proofs.Formed.{nothing-found}
-use Rattle.frames.proofs.Rows.{judged-form}
-use Rattle.frames.proofs.Lines.{end-most, read_first, read_past}
+use Rattle.frames.specs.steps.Cut.{line_from, form_found}
+use Rattle.frames.proofs.Formed.{nothing_found}
+use Rattle.frames.proofs.Rows.{judged_form}
+use Rattle.frames.proofs.Lines.{end_most, read_first, read_past}
 use Rattle.frames.proofs.read_line.Statement.{statement}
 use Rattle.frames.proofs.read_line.Tie as tie
 
 -- What the line found answers is what is read.
 found : (c : tie.After-line-end)
-    → judged c.before.before.before.args.at c.before.before.before.args.place c.before.before.before.args.line (line-from c.before.before.before.args.text.now c.before.before.before.args.at c.line-end.result)
+    → judged c.before.before.before.args.at c.before.before.before.args.place c.before.before.before.args.line (line_from c.before.before.before.args.text.now c.before.before.before.args.at c.line-end.result)
     ≡ line_read c.before.before.before.args.text.now c.before.before.before.args.at c.before.before.before.args.place c.before.before.before.args.line
 found c =
     let a = c.before.before.before.args in
@@ -31,14 +31,14 @@ line-end-requires c κs = search rules
 line-form-requires : tie.Need-line-form-requires
 line-form-requires c κs =
     let a = c.before.before.before.args in
-    (omega arith, end-most a.text.now a.at c.line-end.result (search rules) c.line-end.ensures)
+    (omega arith, end_most a.text.now a.at c.line-end.result (search rules) c.line-end.ensures)
 
 enum_told : tie.Need-enum-told
 enum_told c = search rules
 
 read-formed-requires : tie.Need-read-formed-requires
 read-formed-requires c κs =
-    nothing-found _ _ (sym c.before.before.line-form.ensures ∙ c.enum_told.given.1)
+    nothing_found _ _ (sym c.before.before.line-form.ensures ∙ c.enum_told.given.1)
 
 enum-known-refusal : tie.Need-enum-known-refusal
 enum-known-refusal c = search rules
@@ -49,9 +49,9 @@ returns-2 c = c.read-formed.ensures ∙ found c.before.before.before.before
 returns-3 : tie.Need-returns-3
 returns-3 c =
     let a = c.before.before.before.before.before.before.before.args in
-    let line = line-from a.text.now a.at c.before.before.before.before.line-end.result in
-    let wrong = ◌∙◌ {a = form-found a.line line} (sym c.before.before.before.line-form.ensures) c.before.refusal.given.1 in
-    ◌∙◌ {a = Refused c.before.refusal.given.0.0} (sym (judged-form a.at a.place a.line line wrong)) (found c.before.before.before.before)
+    let line = line_from a.text.now a.at c.before.before.before.before.line-end.result in
+    let wrong = ◌∙◌ {a = form_found a.line line} (sym c.before.before.before.line-form.ensures) c.before.refusal.given.1 in
+    ◌∙◌ {a = Refused c.before.refusal.given.0.0} (sym (judged_form a.at a.place a.line line wrong)) (found c.before.before.before.before)
 
 pub read-line-spec : {M : Type 1} → statement M
 read-line-spec =

@@ -7,16 +7,16 @@ use borrow.Author.Rules.{rules}
 use borrow.Author.Tests.{leb-true, leb-false}
 use lib.Seq.{slice}
 use Rattle.frames.specs.Text.{bytes, words}
-use Rattle.frames.specs.Table.{rising-from}
-use Rattle.frames.proofs.Numbers.{word-most}
-use Rattle.frames.proofs.Walks.{rising_none, rising-more, rising-low, rising-high}
+use Rattle.frames.specs.Table.{rising_from}
+use Rattle.frames.proofs.Numbers.{word_most}
+use Rattle.frames.proofs.Walks.{rising_none, rising_more, rising_low, rising_high}
 use Rattle.frames.proofs.rising.Statement.{statement}
 use Rattle.frames.proofs.rising.Tie as tie
 
 abbrev invariant-loop : tie.invariant-loop
 invariant-loop text from end bound least₀ k₀ least k =
     (k ≤ end)
-    × (rising-from least bound (words (bytes (slice k end text))) ≡ rising-from 0 bound (words (bytes (slice from end text))))
+    × (rising_from least bound (words (bytes (slice k end text))) ≡ rising_from 0 bound (words (bytes (slice from end text))))
 
 abbrev decreases-loop : tie.decreases-loop
 decreases-loop text from end bound least₀ k₀ least k = end - k
@@ -38,14 +38,14 @@ returns c =
     let is = c.before.word_at.ensures in
     sym
     (⊎_elim
-    (λ w. rising-low a.text.now l.k a.end l.least a.gate.0 c.before.word_at.result room (search rules) is (omega arith))
-    (λ w. rising-high a.text.now l.k a.end l.least a.gate.0 c.before.word_at.result room (search rules) is (omega (arith, leb-true)))
+    (λ w. rising_low a.text.now l.k a.end l.least a.gate.0 c.before.word_at.result room (search rules) is (omega arith))
+    (λ w. rising_high a.text.now l.k a.end l.least a.gate.0 c.before.word_at.result room (search rules) is (omega (arith, leb-true)))
     c.if1.branch)
     ∙ l.invariant.1
 
 add-least : tie.Need-overflow-add-least invariant-loop decreases-loop
 add-least c =
-    omega (arith, word-most c.before.before.before.before.before.before.args.text.now c.before.before.before.before.loop.k)
+    omega (arith, word_most c.before.before.before.before.before.before.args.text.now c.before.before.before.before.loop.k)
 
 add-k : tie.Need-overflow-add-k invariant-loop decreases-loop
 add-k c = search rules
@@ -60,7 +60,7 @@ loop-again c =
     let room : l.k + 4 ≤ a.end = omega arith in (
       room,
       sym
-          (rising-more a.text.now l.k a.end l.least a.gate.0 c.before.before.word_at.result room (search rules) c.before.before.word_at.ensures (search rules) (omega (arith, leb-false)))
+          (rising_more a.text.now l.k a.end l.least a.gate.0 c.before.before.word_at.result room (search rules) c.before.before.word_at.ensures (search rules) (omega (arith, leb-false)))
           ∙ l.invariant.1,
     )
 

@@ -5,35 +5,35 @@ use Rattle.std.proofs.Math.Seq.{slice}
 use Rattle.frames.specs.declared.Place.TheVariants.{Opening}
 use Rattle.frames.specs.declared.Form.{Form}
 use Rattle.frames.specs.declared.Form.TheVariants.{Right, Wrong}
-use Rattle.frames.specs.Refusal.{at-column}
-use Rattle.frames.specs.Text.{Line, line-feed}
-use Rattle.frames.specs.Table.{form-rows, first-given, column}
-use Rattle.frames.specs.Frames.{word-from}
+use Rattle.frames.specs.Refusal.{at_column}
+use Rattle.frames.specs.Text.{Line, line_feed}
+use Rattle.frames.specs.Table.{form_rows, first_given, column}
+use Rattle.frames.specs.Frames.{word_from}
 
 -- The digits up to the line feed, and the line so cut out of the text.
-unfoldable pub line-length : List ℕ → ℕ
-line-length [] = 0
-line-length (b ∷ bs) = cond (eqb b line-feed) 0 (suc (line-length bs))
+unfoldable pub line_length : List ℕ → ℕ
+line_length [] = 0
+line_length (b ∷ bs) = cond (eqb b line_feed) 0 (suc (line_length bs))
 
-abbrev pub line-from : List ℕ → ℕ → ℕ → Line
-line-from text at end = record { digits = slice at end text; ended = ltb end (length text) }
+abbrev pub line_from : List ℕ → ℕ → ℕ → Line
+line_from text at end = record { digits = slice at end text; ended = ltb end (length text) }
 
 -- The number of its form alone, if that is faulty; any place would do.
-unfoldable pub form-fault : Line → Option ℕ
-unfolding first-given form-rows
-form-fault l = first-given form-rows Opening l
+unfoldable pub form_fault : Line → Option ℕ
+unfolding first_given form_rows
+form_fault l = first_given form_rows Opening l
 
 -- What is found of the form of a line: nothing, or a number with its line and column.
-unfoldable pub form-told : Option ℕ → ℕ → Line → Form
+unfoldable pub form_told : Option ℕ → ℕ → Line → Form
 unfolding column
-form-told none line l = Right
-form-told (some k) line l = Wrong (at-column k line (column k l))
+form_told none line l = Right
+form_told (some k) line l = Wrong (at_column k line (column k l))
 
-unfoldable pub form-found : ℕ → Line → Form
-unfolding form-told form-fault
-form-found line l = form-told (form-fault l) line l
+unfoldable pub form_found : ℕ → Line → Form
+unfolding form_told form_fault
+form_found line l = form_told (form_fault l) line l
 
 -- Eight digits from a place on.
-unfoldable pub long-from : List ℕ → ℕ → ℕ
-unfolding word-from
-long-from text k = 65_536 * word-from text k + word-from text (k + 4)
+unfoldable pub long_from : List ℕ → ℕ → ℕ
+unfolding word_from
+long_from text k = 65_536 * word_from text k + word_from text (k + 4)

@@ -7,5 +7,5 @@ abbrev pub marked : List ℕ → ℕ → Bool
 marked inside x = ltb 0 (get_or inside x 0)
 
 -- the gates below k that have a mark, rising
-unfoldable pub marked-below : List ℕ → ℕ → List ℕ
-marked-below inside k = keep (marked inside) (upto k)
+unfoldable pub marked_below : List ℕ → ℕ → List ℕ
+marked_below inside k = keep (marked inside) (upto k)

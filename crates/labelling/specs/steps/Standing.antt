@@ -1,14 +1,14 @@
 -- What labelling's own rows hold, and what they keep to.
 use Rattle.std.specs.Prelude.{ℕ, suc, ◌+◌, ◌*◌, ◌≤◌, ◌<◌, ◌^◌, ◌≡◌, List, [], ◌∷◌, cond, ltb, length, get_or, take}
 use Rattle.model.specs.Basics.{◌∈◌}
-use Rattle.model.specs.Ceilings.{most-gates, most-delay}
-use Rattle.model.specs.Onward.{reach, in-cone}
+use Rattle.model.specs.Ceilings.{most_gates, most_delay}
+use Rattle.model.specs.Onward.{reach, in_cone}
 use Rattle.model.specs.Label.{pull, place, ordered}
 use Rattle.model.specs.Network.{Network}
 
 -- the row has a place for each gate that a network can have
 abbrev pub Whole : List ℕ → Type 0
-Whole row = length row ≡ most-gates
+Whole row = length row ≡ most_gates
 
 -- every number of the list is below k
 abbrev pub Below : ℕ → List ℕ → Type 0
@@ -20,17 +20,17 @@ pub data Falls (pulls : ℕ → ℕ) : List ℕ → Type 0 where
   first : {x : ℕ} {xs : List ℕ} → ((y : ℕ) → y ∈ xs → pulls y ≤ pulls x) → Falls pulls xs → Falls pulls (x ∷ xs)
 
 -- the pull of a gate, as the row has it
-abbrev pub pull-in : List ℕ → ℕ → ℕ
-pull-in row u = get_or row u 0
+abbrev pub pull_in : List ℕ → ℕ → ℕ
+pull_in row u = get_or row u 0
 
 -- the ordered row when the gate u has been looked at
 abbrev pub seated : List ℕ → List ℕ → ℕ → List ℕ → List ℕ
-seated onward pulls u row = cond (ltb 0 (get_or onward u 0)) (place (pull-in pulls) u row) row
+seated onward pulls u row = cond (ltb 0 (get_or onward u 0)) (place (pull_in pulls) u row) row
 
 -- The rows tell, of the gates below v, which of them lie in the cone of v and how much they pull.
 pub record Pulled (n : Network) (labels : List ℕ) (v : ℕ) (onward pulls : List ℕ) : Type 0 where
-  pub cone : (u : ℕ) → u < v → in-cone n u v ≡ ltb 0 (get_or onward u 0)
-  pub pull-of : (u : ℕ) → u < v → pull n labels v u ≡ pull-in pulls u
+  pub cone : (u : ℕ) → u < v → in_cone n u v ≡ ltb 0 (get_or onward u 0)
+  pub pull_of : (u : ℕ) → u < v → pull n labels v u ≡ pull_in pulls u
 
 -- The first `count` gates of the row are those of the cone of v, v excepted, by pull.
 pub record Arranged (v : ℕ) (onward pulls row : List ℕ) (count : ℕ) : Type 0 where
@@ -42,10 +42,10 @@ pub record Arranged (v : ℕ) (onward pulls row : List ℕ) (count : ℕ) : Type
 -- The row tells the onward delays to v of the gates up to v, coded as the model's row. No entry comes near 64 bits.
 pub record Reached (n : Network) (v : ℕ) (row : List ℕ) : Type 0 where
   pub entries : take (suc v) row ≡ take (suc v) (reach n v)
-  pub small : (u : ℕ) → u < suc v → get_or row u 0 ≤ most-delay * suc v + 1
+  pub small : (u : ℕ) → u < suc v → get_or row u 0 ≤ most_delay * suc v + 1
 
 -- The cone of v, v excepted, in the two rows: how much each gate pulls, and the gates by pull.
 pub record InOrder (n : Network) (labels : List ℕ) (v : ℕ) (pulls row : List ℕ) (count : ℕ) : Type 0 where
-  pub pull-of : (u : ℕ) → u < v → pull n labels v u ≡ pull-in pulls u
-  pub small : (u : ℕ) → u < v → pull-in pulls u < 2 ^ 33
+  pub pull_of : (u : ℕ) → u < v → pull n labels v u ≡ pull_in pulls u
+  pub small : (u : ℕ) → u < v → pull_in pulls u < 2 ^ 33
   pub order : take count row ≡ ordered n labels v

@@ -5,7 +5,7 @@ use mathlib.Core.List.{List}
 use native.Mathlib.Omega.{arith}
 use lib.ListN.{length}
 use borrow.Author.Rules.{rules}
-use Rattle.reading.proofs.LinesRead.{GateRead, header_read, gate-read}
+use Rattle.reading.proofs.LinesRead.{GateRead, header_read, gate_read}
 use Rattle.reading.proofs.Filling as fill
 use Rattle.reading.proofs.fill_row.Statement.{statement}
 use Rattle.reading.proofs.fill_row.Tie as tie
@@ -29,7 +29,7 @@ the-gate : (c : tie.After-read invariant-loop decreases-loop)
 the-gate c =
     let t = turn c.before.before in
     let r = c.before.before.read-line2 in
-    gate-read (text_of t) t.loop.at t.loop.gates r.result r.ensures _ _ _ _ c.read.given.1
+    gate_read (text_of t) t.loop.at t.loop.gates r.result r.ensures _ _ _ _ c.read.given.1
 
 read-line-requires : tie.Need-read-line-requires invariant-loop decreases-loop
 read-line-requires c κs = search rules
@@ -40,13 +40,13 @@ enum-known-header c = search rules
 returns : tie.Need-returns invariant-loop decreases-loop
 returns c =
     let s = c.before.before.before.before in
-    let r = c.before.read-line in
+    let r = c.before.read_line in
     absurd (fill.opens s.args.text.now _ s.requires r.result r.ensures c.match.keys2)
 
 loop-holds : tie.Need-loop-init invariant-loop decreases-loop
 loop-holds c =
     let s = c.before.before.before.before.before.before in
-    let r = c.before.before.before.read-line in
+    let r = c.before.before.before.read_line in
     fill.start s.args.text.now _ _ _ _ s.requires (header_read s.args.text.now r.result r.ensures _ _ _ c.before.header.given.1)
 
 add-read-line : tie.Need-overflow-add-read-line invariant-loop decreases-loop
@@ -74,7 +74,7 @@ put-gate-requires : tie.Need-put-gate-requires invariant-loop decreases-loop
 put-gate-requires c κs = search rules
 
 fill-fan-ins-requires : tie.Need-fill-fan-ins-requires invariant-loop decreases-loop
-fill-fan-ins-requires c κs = fill.word-sized _ _ _ _ _ _ _ (the-gate c.before.before.before.before.before.before)
+fill-fan-ins-requires c κs = fill.word_sized _ _ _ _ _ _ _ (the-gate c.before.before.before.before.before.before)
 
 -- the line that was read, after its gate was put
 abbrev line_of : tie.After-slice-known3 invariant-loop decreases-loop → tie.After-read invariant-loop decreases-loop
@@ -92,7 +92,7 @@ loop-again : tie.Need-loop-preserved invariant-loop decreases-loop
 loop-again c =
     let t = turn (line_of c).before.before in
     fill.one_on (text_of t) _ t.loop.row t.loop.at t.loop.gates t.loop.inv _ _ _ _ (the-gate (line_of c)) _ _
-    c.before.before.before.before.before.before.put-gate.ensures
+    c.before.before.before.before.before.before.put_gate.ensures
     c.before.before.fill-fan-ins.ensures
 
 pub fill-row-spec : {M : Type 1} → statement M

@@ -10,7 +10,7 @@ use Rattle.texts.specs.Reading.{network, walk, weigh}
 use Rattle.rows.specs.declared.Read.TheVariants.{Refused}
 use Rattle.rows.specs.Read.{shown}
 use Rattle.reading.proofs.LinesRead.{no_end, whole}
-use Rattle.reading.proofs.Looking.{refusal-told, told_none, told-some}
+use Rattle.reading.proofs.Looking.{refusal_told, told_none, told_some}
 use Rattle.reading.proofs.look_end.Statement.{statement}
 use Rattle.reading.proofs.look_end.Tie as tie
 
@@ -23,7 +23,7 @@ ended : (c : tie.After-enum-told) (n : Network)
     ≡ shown (weigh (walk Closed ((start c.before.before).args.seen.header.gates + 3) n (lines (drop (start c.before.before).args.at (start c.before.before).args.text.now))))
 ended c n =
     let a = (start c.before.before).args in
-    let r = c.before.before.read-line in
+    let r = c.before.before.read_line in
     ap (λ w. shown (weigh w)) (sym (whole a.text.now a.at (a.seen.header.gates + 3) n r.result r.ensures c.enum_told.given.1))
 
 add-missing : tie.Need-overflow-add-missing
@@ -41,9 +41,9 @@ refusal-requires c κs = search rules
 returns : tie.Need-returns
 returns c = λ n k.
     let a = (start c.before.before).args in
-    let r = c.before.before.read-line in
+    let r = c.before.before.read_line in
     c.refusal.ensures
-    ∙ refusal-told r.result _ _
+    ∙ refusal_told r.result _ _
     (no_end a.text.now a.at (a.seen.header.gates + 3) n r.result r.ensures c.before.match.keys2)
 
 at-line-requires : tie.Need-at-line-requires
@@ -52,8 +52,8 @@ at-line-requires c κs = search rules
 returns-2 : tie.Need-returns-2
 returns-2 c = λ n k.
     let t = c.before in
-    ap Refused c.at-line.ensures
-    ∙ told-some (start t.before.before.before).args.seen n k t.if1.true
+    ap Refused c.at_line.ensures
+    ∙ told_some (start t.before.before.before).args.seen n k t.if1.true
     ∙ ended t.before n
 
 returns-3 : tie.Need-returns-3

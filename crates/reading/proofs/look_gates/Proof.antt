@@ -9,8 +9,8 @@ use lib.ListN.{length}
 use borrow.Author.Rules.{rules}
 use Rattle.texts.specs.Reading.{weigh}
 use Rattle.rows.specs.Read.{shown}
-use Rattle.reading.proofs.LinesRead.{GateRead, gate-read, end_read, no-gate-or-end}
-use Rattle.reading.proofs.Looking.{refusal-told, Going, set_out, go_on}
+use Rattle.reading.proofs.LinesRead.{GateRead, gate_read, end_read, no_gate_or_end}
+use Rattle.reading.proofs.Looking.{refusal_told, Going, set_out, go_on}
 use Rattle.reading.proofs.look_gates.Statement.{statement}
 use Rattle.reading.proofs.look_gates.Tie as tie
 
@@ -32,8 +32,8 @@ the-gate : (c : tie.After-read invariant-loop decreases-loop)
     → GateRead (text_of (turn c.before.before)) (turn c.before.before).loop.at (turn c.before.before).loop.seen.header.gates c.read.given.0.0 c.read.given.0.1.0 c.read.given.0.1.1.0 c.read.given.0.1.1.1.0
 the-gate c =
     let l = (turn c.before.before).loop in
-    let r = c.before.before.read-line in
-    gate-read (text_of (turn c.before.before)) l.at l.seen.header.gates r.result r.ensures _ _ _ _ c.read.given.1
+    let r = c.before.before.read_line in
+    gate_read (text_of (turn c.before.before)) l.at l.seen.header.gates r.result r.ensures _ _ _ _ c.read.given.1
 
 loop-holds : tie.Need-loop-init invariant-loop decreases-loop
 loop-holds c =
@@ -62,10 +62,10 @@ returns : tie.Need-returns invariant-loop decreases-loop
 returns c =
     let t = turn c.before.before.before in
     let l = t.loop in
-    let r = c.before.before.before.read-line in
+    let r = c.before.before.before.read_line in
     c.refusal.ensures
-    ∙ refusal-told r.result (l.seen.header.gates + 2) _
-    (sym l.inv.same ∙ no-gate-or-end (text_of t) l.at (l.seen.header.gates + 2) l.inv.so_far r.result l.seen.header.gates r.ensures c.before.before.match.keys2 c.before.match2.keys2)
+    ∙ refusal_told r.result (l.seen.header.gates + 2) _
+    (sym l.inv.same ∙ no_gate_or_end (text_of t) l.at (l.seen.header.gates + 2) l.inv.so_far r.result l.seen.header.gates r.ensures c.before.before.match.keys2 c.before.match2.keys2)
 
 look-end-requires : tie.Need-look-end-requires invariant-loop decreases-loop
 look-end-requires c κs = search rules
@@ -74,7 +74,7 @@ returns-2 : tie.Need-returns-2 invariant-loop decreases-loop
 returns-2 c =
     let t = turn c.before.before.before.before.before in
     let l = t.loop in
-    let r = c.before.before.before.before.before.read-line in
+    let r = c.before.before.before.before.before.read_line in
     let on = end_read (text_of t) l.at l.seen.header.gates r.result r.ensures _ c.before.before.read2.given.1 l.inv.so_far in
     c.look-end.ensures l.inv.so_far l.inv.known ∙ ap (λ w. shown (weigh w)) (sym on ∙ l.inv.same)
 
@@ -90,7 +90,7 @@ loop-again : tie.Need-loop-preserved invariant-loop decreases-loop
 loop-again c =
     let t = turn c.before.before.before.before in
     let l = t.loop in
-    rw c.with-gate.ensures
+    rw c.with_gate.ensures
     (go_on (text_of t) t.before.before.args.first _ l.at l.seen _ _ _ _ l.inv (the-gate c.before.before))
 
 pub look-gates-spec : {M : Type 1} → statement M

@@ -1,5 +1,5 @@
 -- `reading::read` meets its contract: what the first pass answers, the test of the row, and the second pass.
-use Rattle.reading.proofs.ReadInto.{refused-into, short-into, fits-into, filled-into}
+use Rattle.reading.proofs.ReadInto.{refused_into, short_into, fits_into, filled_into}
 use borrow.Author.Rules.{rules}
 use Rattle.reading.proofs.read.Statement.{statement}
 use Rattle.reading.proofs.read.Tie as tie
@@ -16,7 +16,7 @@ enum_told c = search rules
 returns : tie.Need-returns
 returns c =
     let l = c.before.before.look in
-    refused-into _ _ l.result l.ensures c.before.match.keys2
+    refused_into _ _ l.result l.ensures c.before.match.keys2
 
 too-short-requires : tie.Need-too-short-requires
 too-short-requires c κs = search rules
@@ -32,14 +32,14 @@ returns-2 c =
     let t = c.before.before in
     let seen = t.before.before.before in
     let l = seen.before.before.look in
-    short-into _ _ l.result l.ensures _ seen.seen.given.1 t.too_short.result t.too_short.ensures c.before.if1.true _ c.no_room.ensures
+    short_into _ _ l.result l.ensures _ seen.seen.given.1 t.too_short.result t.too_short.ensures c.before.if1.true _ c.no_room.ensures
 
 fill-row-requires : tie.Need-fill-row-requires
 fill-row-requires c κs =
     let t = c.before.before in
     let seen = t.before.before.before in
     let l = seen.before.before.look in
-    fits-into _ _ l.result l.ensures _ seen.seen.given.1 t.too_short.result t.too_short.ensures c.before.if1.false
+    fits_into _ _ l.result l.ensures _ seen.seen.given.1 t.too_short.result t.too_short.ensures c.before.if1.false
 
 same-length-2 : tie.Need-same-length-2
 same-length-2 c = search rules
@@ -50,7 +50,7 @@ returns-3 c =
     let t = e.before in
     let seen = t.before.before.before in
     let l = seen.before.before.look in
-    filled-into _ _ l.result l.ensures _ seen.seen.given.1 t.too_short.result t.too_short.ensures e.if1.false _
+    filled_into _ _ l.result l.ensures _ seen.seen.given.1 t.too_short.result t.too_short.ensures e.if1.false _
     c.before.before.fill-row.ensures
 
 pub read_spec : {M : Type 1} → statement M

@@ -1,10 +1,10 @@
 -- `reading::refusal` meets its contract: a refusal is passed on, and anything else is a frame that is missing.
 use borrow.Author.Rules.{rules}
 use Rattle.rows.specs.Read.{shown}
-use Rattle.reading.specs.steps.Passes.{refusal-of}
+use Rattle.reading.specs.steps.Passes.{refusal_of}
 use Rattle.reading.proofs.refusal.Statement.{statement}
 use Rattle.reading.proofs.refusal.Tie as tie
-use Rattle.reading.proofs.LinesRead.{not-refused}
+use Rattle.reading.proofs.LinesRead.{not_refused}
 
 enum-known-read : tie.Need-enum-known-read
 enum-known-read c = search rules
@@ -16,10 +16,10 @@ returns : tie.Need-returns
 unfolding shown
 returns c =
     let a = c.before.before.args in
-    rw (c.at-line.ensures, not-refused a.read a.missing c.before.match.keys2)
+    rw (c.at_line.ensures, not_refused a.read a.missing c.before.match.keys2)
 
 returns-2 : tie.Need-returns-2
-unfolding shown refusal-of
+unfolding shown refusal_of
 returns-2 c = rw c.before.read.given.1
 
 pub refusal-spec : {M : Type 1} → statement M

@@ -2,16 +2,16 @@
 -- fits is what the row's type says.
 use mathlib.Core.Path.{◌≡◌}
 use borrow.Author.Rules.{rules}
-use Rattle.rows.specs.steps.RowCheck.{settled, row-fault}
-use Rattle.rows.proofs.Checked.{checked-network, checked_refused}
+use Rattle.rows.specs.steps.RowCheck.{settled, row_fault}
+use Rattle.rows.proofs.Checked.{checked_network, checked_refused}
 use Rattle.rows.proofs.check.Statement.{statement}
 use Rattle.rows.proofs.check.Tie as tie
 
 -- what is found is said of the header with M and D within their ceilings
 found : (c : tie.After-row-fault)
-    → c.row-fault.result
-    ≡ row-fault (settled c.before.before.before.args.header) c.before.before.before.args.row.now
-found c = rw c.before.settled.ensures at c.row-fault.ensures
+    → c.row_fault.result
+    ≡ row_fault (settled c.before.before.before.args.header) c.before.before.before.args.row.now
+found c = rw c.before.settled.ensures at c.row_fault.ensures
 
 settled-requires : tie.Need-settled-requires
 settled-requires c κs = search rules
@@ -29,7 +29,7 @@ returns : tie.Need-returns
 returns c =
     let at = c.before.before in
     rw at.before.settled.ensures
-    (checked-network _ _ (λ i. (at.before.before.shared-slice-known.given i).fits) (found at) c.enum_told.given.1)
+    (checked_network _ _ (λ i. (at.before.before.shared-slice-known.given i).fits) (found at) c.enum_told.given.1)
 
 returns-2 : tie.Need-returns-2
 returns-2 c =

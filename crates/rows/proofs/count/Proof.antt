@@ -1,6 +1,6 @@
 -- `rows::count` meets its contract: the count stands at the third place of the block.
 use borrow.Author.Rules.{rules}
-use Rattle.rows.specs.Row.{count-in}
+use Rattle.rows.specs.Row.{count_in}
 use Rattle.rows.proofs.count.Statement.{statement}
 use Rattle.rows.proofs.count.Tie as tie
 
@@ -11,7 +11,7 @@ cast-result : tie.Need-overflow-cast-result
 cast-result c = search rules
 
 returns : tie.Need-returns
-unfolding count-in
+unfolding count_in
 returns c = c.place.ensures
 
 pub count_spec : {M : Type 1} → statement M

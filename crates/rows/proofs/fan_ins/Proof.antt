@@ -4,9 +4,9 @@ use mathlib.Core.Path.{◌≡◌}
 use mathlib.Core.Logic.{⊎_elim}
 use native.Mathlib.Omega.{arith}
 use borrow.Author.Rules.{rules}
-use Rattle.model.specs.Ceilings.{most-fanins}
-use Rattle.rows.specs.Row.{places, count-in}
-use Rattle.rows.proofs.Access.{fanins-none, fanins-at}
+use Rattle.model.specs.Ceilings.{most_fanins}
+use Rattle.rows.specs.Row.{places, count_in}
+use Rattle.rows.proofs.Access.{fanins_none, fanins_at}
 use Rattle.rows.proofs.fan_ins.Statement.{statement}
 use Rattle.rows.proofs.fan_ins.Tie as tie
 
@@ -15,7 +15,7 @@ start c = c.before.before.before.before.before
 
 -- what the two arms leave
 many : (c : tie.After-row-known)
-    → c.before.if2.many ≡ min (count-in (start c).args.row.now (start c).args.v) most-fanins
+    → c.before.if2.many ≡ min (count_in (start c).args.row.now (start c).args.v) most_fanins
 many c =
     let counted = c.before.before.count.ensures in
     ⊎_elim (λ w. omega (arith, counted)) (λ w. omega (arith, counted)) c.before.if2.branch
@@ -24,7 +24,7 @@ slice-aggregate-result : tie.Need-slice-aggregate-result
 slice-aggregate-result c = search rules
 
 returns : tie.Need-returns
-returns c = fanins-none _ _ c.before.if1.true
+returns c = fanins_none _ _ c.before.if1.true
 
 count-requires : tie.Need-count-requires
 count-requires c κs = search rules
@@ -54,7 +54,7 @@ returns-2 : tie.Need-returns-2
 returns-2 c =
     let from = places * (start c.before).args.v + 3 in
     let n : from + c.before.before.if2.many - from ≡ c.before.before.if2.many = omega arith in
-    rw n (fanins-at _ _ c.before.before.before.before.if1.false _ (many c.before))
+    rw n (fanins_at _ _ c.before.before.before.before.if1.false _ (many c.before))
 
 pub fan-ins-spec : {M : Type 1} → statement M
 fan-ins-spec =

@@ -4,13 +4,13 @@ use Prim.Native.Nat.{◌-◌}
 use mathlib.Core.Path.{◌≡◌, sym, ◌∙◌}
 use native.Mathlib.Omega.{arith}
 use borrow.Author.Rules.{rules}
-use Rattle.rows.specs.steps.RowCheck.{first-fault}
-use Rattle.rows.proofs.Faults.{faultless-here, fault-here}
+use Rattle.rows.specs.steps.RowCheck.{first_fault}
+use Rattle.rows.proofs.Faults.{faultless_here, fault_here}
 use Rattle.rows.proofs.first_fault.Statement.{statement}
 use Rattle.rows.proofs.first_fault.Tie as tie
 
 abbrev invariant-loop : tie.invariant-loop
-invariant-loop gates row v₀ v = first-fault row v (gates - v) ≡ first-fault row 0 gates
+invariant-loop gates row v₀ v = first_fault row v (gates - v) ≡ first_fault row 0 gates
 
 abbrev decreases-loop : tie.decreases-loop
 decreases-loop gates row v₀ v = gates - v
@@ -31,8 +31,8 @@ returns : tie.Need-returns invariant-loop decreases-loop
 returns c =
     let found = c.before.before in
     let at = found.before.before in
-    found.gate-fault.ensures
-    ∙ fault-here _ at.loop.v _ found.before.loop-test.true (sym found.gate-fault.ensures ∙ c.enum-told2.given.1)
+    found.gate_fault.ensures
+    ∙ fault_here _ at.loop.v _ found.before.loop-test.true (sym found.gate_fault.ensures ∙ c.enum-told2.given.1)
     ∙ at.loop.invariant
 
 add-v : tie.Need-overflow-add-v invariant-loop decreases-loop
@@ -45,11 +45,11 @@ loop-again : tie.Need-loop-preserved invariant-loop decreases-loop
 loop-again c =
     let found = c.before.before in
     let at = found.before.before in
-    faultless-here _ at.loop.v _ found.before.loop-test.true (sym found.gate-fault.ensures ∙ c.enum_told.given.1)
+    faultless_here _ at.loop.v _ found.before.loop-test.true (sym found.gate_fault.ensures ∙ c.enum_told.given.1)
     ∙ at.loop.invariant
 
 returns-2 : tie.Need-returns-2 invariant-loop decreases-loop
-unfolding first-fault
+unfolding first_fault
 returns-2 c =
     let z : c.before.before.before.args.gates - c.before.loop.v ≡ 0 = omega arith in
     rw z at c.before.loop.invariant

@@ -4,14 +4,14 @@ use Prim.Native.Nat.{◌-◌}
 use mathlib.Core.Path.{◌≡◌, sym, ◌∙◌}
 use native.Mathlib.Omega.{arith}
 use borrow.Author.Rules.{rules}
-use Rattle.rows.specs.Row.{weight-in}
-use Rattle.rows.specs.steps.RowCheck.{heavy-fault, first-heavy-fault}
-use Rattle.rows.proofs.Faults.{light-here, heavy-here}
+use Rattle.rows.specs.Row.{weight_in}
+use Rattle.rows.specs.steps.RowCheck.{heavy_fault, first_heavy_fault}
+use Rattle.rows.proofs.Faults.{light_here, heavy_here}
 use Rattle.rows.proofs.first_heavy.Statement.{statement}
 use Rattle.rows.proofs.first_heavy.Tie as tie
 
 abbrev invariant-loop : tie.invariant-loop
-invariant-loop row capacity gates v₀ v = first-heavy-fault capacity.0 row v (gates - v) ≡ first-heavy-fault capacity.0 row 0 gates
+invariant-loop row capacity gates v₀ v = first_heavy_fault capacity.0 row v (gates - v) ≡ first_heavy_fault capacity.0 row 0 gates
 
 abbrev decreases-loop : tie.decreases-loop
 decreases-loop row capacity gates v₀ v = gates - v
@@ -24,9 +24,9 @@ start c = (at c).before.before.before
 
 -- what is found is said of the weight that stands in the row
 heavy : (c : tie.After-heavy-fault invariant-loop decreases-loop)
-    → c.heavy-fault.result
-    ≡ heavy-fault (at c).loop.v (weight-in (start c).args.row.now (at c).loop.v) (start c).args.header.capacity.0
-heavy c = rw c.before.weight.ensures at c.heavy-fault.ensures
+    → c.heavy_fault.result
+    ≡ heavy_fault (at c).loop.v (weight_in (start c).args.row.now (at c).loop.v) (start c).args.header.capacity.0
+heavy c = rw c.before.weight.ensures at c.heavy_fault.ensures
 
 loop-holds : tie.Need-loop-init invariant-loop decreases-loop
 loop-holds c = let z : c.before.before.args.header.gates - 0 ≡ c.before.before.args.header.gates = omega arith in rw z
@@ -47,7 +47,7 @@ returns : tie.Need-returns invariant-loop decreases-loop
 returns c =
     let found = c.before.before in
     heavy found
-    ∙ heavy-here _ _ (at found).loop.v _ found.before.before.loop-test.true (sym (heavy found) ∙ c.enum-told2.given.1)
+    ∙ heavy_here _ _ (at found).loop.v _ found.before.before.loop-test.true (sym (heavy found) ∙ c.enum-told2.given.1)
     ∙ (at found).loop.invariant
 
 add-v : tie.Need-overflow-add-v invariant-loop decreases-loop
@@ -59,11 +59,11 @@ loop-less c = omega arith
 loop-again : tie.Need-loop-preserved invariant-loop decreases-loop
 loop-again c =
     let found = c.before.before in
-    light-here _ _ (at found).loop.v _ found.before.before.loop-test.true (sym (heavy found) ∙ c.enum_told.given.1)
+    light_here _ _ (at found).loop.v _ found.before.before.loop-test.true (sym (heavy found) ∙ c.enum_told.given.1)
     ∙ (at found).loop.invariant
 
 returns-2 : tie.Need-returns-2 invariant-loop decreases-loop
-unfolding first-heavy-fault
+unfolding first_heavy_fault
 returns-2 c =
     let z : c.before.before.before.before.args.header.gates - c.before.loop.v ≡ 0 = omega arith in
     rw z at c.before.loop.invariant

@@ -2,7 +2,7 @@
 use mathlib.Core.Path.{sym, ◌∙◌}
 use borrow.Author.Rules.{rules}
 use borrow.Author.Tests.{leb-true, leb-false, lt-ltb, le-ltb}
-use Rattle.rows.specs.steps.RowCheck.{heavy-fault}
+use Rattle.rows.specs.steps.RowCheck.{heavy_fault}
 use Rattle.rows.proofs.heavy_fault.Statement.{statement}
 use Rattle.rows.proofs.heavy_fault.Tie as tie
 
@@ -13,11 +13,11 @@ fault-at-requires : tie.Need-fault-at-requires
 fault-at-requires c κs = search rules
 
 returns : tie.Need-returns
-unfolding heavy-fault
+unfolding heavy_fault
 returns c = rw (le-ltb _ _ (leb-true _ _ (sym c.before.within.ensures ∙ c.if1.true)))
 
 returns-2 : tie.Need-returns-2
-unfolding heavy-fault
+unfolding heavy_fault
 returns-2 c =
     c.fault-at.ensures
     ∙ rw (lt-ltb _ _ (leb-false _ _ (sym c.before.before.within.ensures ∙ c.before.if1.false)))

@@ -3,15 +3,15 @@ use mathlib.Core.Logic.{⊎_elim}
 use native.Mathlib.Omega.{arith}
 use borrow.Author.Rules.{rules}
 use borrow.Author.Tests.{leb-true, leb-false}
-use Rattle.rows.proofs.Access.{fanin-blockless, fanin-placeless, fanin-stored}
+use Rattle.rows.proofs.Access.{fanin_blockless, fanin_placeless, fanin_stored}
 use Rattle.rows.proofs.put_fan_in.Statement.{statement}
 use Rattle.rows.proofs.put_fan_in.Tie as tie
 
 returns : tie.Need-returns
 returns c =
     ⊎_elim
-    (λ w. fanin-blockless _ _ _ _ w.taken)
-    (λ w. fanin-placeless _ _ _ _ w.0.left (leb-true _ _ w.1.taken))
+    (λ w. fanin_blockless _ _ _ _ w.taken)
+    (λ w. fanin_placeless _ _ _ _ w.0.left (leb-true _ _ w.1.taken))
     c.if1.branch
 
 mul-row : tie.Need-overflow-mul-row
@@ -33,7 +33,7 @@ same_length : tie.Need-same-length
 same_length c = search rules
 
 returns-2 : tie.Need-returns-2
-returns-2 c = fanin-stored _ _ _ _ c.before.if1.false (leb-false _ _ c.if2.false)
+returns-2 c = fanin_stored _ _ _ _ c.before.if1.false (leb-false _ _ c.if2.false)
 
 pub put-fan-in-spec : {M : Type 1} → statement M
 put-fan-in-spec =

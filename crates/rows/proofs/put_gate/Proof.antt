@@ -4,16 +4,16 @@ use mathlib.Core.Path.{◌≡◌, refl, sym, ◌∙◌}
 use native.Mathlib.Omega.{arith}
 use borrow.Author.Rules.{rules}
 use lib.ListN.{length, length-set}
-use Rattle.model.specs.Ceilings.{most-fanins}
-use Rattle.rows.proofs.Access.{zeroed, zeroed-next, zeroed-over, gate-blockless, gate-stored}
+use Rattle.model.specs.Ceilings.{most_fanins}
+use Rattle.rows.proofs.Access.{zeroed, zeroed_next, zeroed_over, gate_blockless, gate_stored}
 use Rattle.rows.proofs.put_gate.Statement.{statement}
 use Rattle.rows.proofs.put_gate.Tie as tie
 
 abbrev invariant-loop : tie.invariant-loop
-invariant-loop row₀ v from i₀ row i = (i ≤ most-fanins) × ((length row ≡ length row₀) × (zeroed from row i ≡ zeroed from row₀ 0))
+invariant-loop row₀ v from i₀ row i = (i ≤ most_fanins) × ((length row ≡ length row₀) × (zeroed from row i ≡ zeroed from row₀ 0))
 
 abbrev decreases-loop : tie.decreases-loop
-decreases-loop row₀ v from i₀ row i = most-fanins - i
+decreases-loop row₀ v from i₀ row i = most_fanins - i
 
 -- the row keeps its length
 long : (c : tie.At-loop invariant-loop decreases-loop)
@@ -21,7 +21,7 @@ long : (c : tie.At-loop invariant-loop decreases-loop)
 long c = simp length-set at c.loop.invariant.1.0
 
 returns : tie.Need-returns invariant-loop decreases-loop
-returns c = gate-blockless _ _ _ _ _ c.if1.true
+returns c = gate_blockless _ _ _ _ _ c.if1.true
 
 mul-from : tie.Need-overflow-mul-from invariant-loop decreases-loop
 mul-from c = search rules
@@ -89,7 +89,7 @@ loop-less c = search rules
 loop-again : tie.Need-loop-preserved invariant-loop decreases-loop
 loop-again c =
     let inv = c.before.loop.invariant in
-    (omega arith, (simp length-set (long c.before), zeroed-next _ _ _ c.loop-test.true ∙ inv.1.1))
+    (omega arith, (simp length-set (long c.before), zeroed_next _ _ _ c.loop-test.true ∙ inv.1.1))
 
 same_length : tie.Need-same-length invariant-loop decreases-loop
 same_length c = long c.before
@@ -99,9 +99,9 @@ returns-2 c =
     let counted = c.before.before in
     let delayed = counted.before in
     let weighed = delayed.before in
-    sym (zeroed-over _ _ _ c.loop-test.false)
+    sym (zeroed_over _ _ _ c.loop-test.false)
     ∙ c.before.loop.invariant.1.1
-    ∙ gate-stored _ _ _ _ _ weighed.before.if1.false weighed.weight-place.ensures delayed.delay-place.ensures counted.count-place.ensures
+    ∙ gate_stored _ _ _ _ _ weighed.before.if1.false weighed.weight_place.ensures delayed.delay_place.ensures counted.count_place.ensures
 
 pub put-gate-spec : {M : Type 1} → statement M
 put-gate-spec =

@@ -7,13 +7,13 @@ use native.Mathlib.Omega.{arith}
 use borrow.Author.Rules.{rules}
 use borrow.Author.Tests.{eq-eqb, ne_eqb}
 use lib.ListN.{length, drop}
-use Rattle.frames.specs.Table.{rising-from}
-use Rattle.rows.proofs.Faults.{rising-on, rising-broken, rising-over}
+use Rattle.frames.specs.Table.{rising_from}
+use Rattle.rows.proofs.Faults.{rising_on, rising_broken, rising_over}
 use Rattle.rows.proofs.rising.Statement.{statement}
 use Rattle.rows.proofs.rising.Tie as tie
 
 abbrev invariant-loop : tie.invariant-loop
-invariant-loop fanins gate least₀ i₀ least i = (i ≤ length fanins) × (rising-from least gate (drop i fanins) ≡ rising-from 0 gate fanins)
+invariant-loop fanins gate least₀ i₀ least i = (i ≤ length fanins) × (rising_from least gate (drop i fanins) ≡ rising_from 0 gate fanins)
 
 abbrev decreases-loop : tie.decreases-loop
 decreases-loop fanins gate least₀ i₀ least i = length fanins - i
@@ -56,7 +56,7 @@ loop-again c =
     let test = c.before.before.before.before in
     let at = test.before in (
       omega arith,
-      rising-on _ at.loop.i at.loop.least _ test.loop-test.true (sym c.before.before.in_place.ensures ∙ c.before.if1.true)
+      rising_on _ at.loop.i at.loop.least _ test.loop-test.true (sym c.before.before.in_place.ensures ∙ c.before.if1.true)
           ∙ at.loop.invariant.1,
     )
 
@@ -67,11 +67,11 @@ returns c =
     ⊎_elim
     (λ w.
     ne_eqb at.loop.i (length a.fanins.now) (omega (arith, w.0.taken))
-    ∙ sym (rising-broken _ at.loop.i at.loop.least _ w.0.taken (sym w.2.ensures ∙ w.3.left))
+    ∙ sym (rising_broken _ at.loop.i at.loop.least _ w.0.taken (sym w.2.ensures ∙ w.3.left))
     ∙ at.loop.invariant.1)
     (λ w.
     eq-eqb at.loop.i (length a.fanins.now) (omega (arith, w.left))
-    ∙ sym (rising-over _ at.loop.i at.loop.least _ w.left)
+    ∙ sym (rising_over _ at.loop.i at.loop.least _ w.left)
     ∙ at.loop.invariant.1)
     c.loop-test.branch
 

@@ -6,8 +6,8 @@ use native.Mathlib.Omega.{arith}
 use borrow.Author.Rules.{rules}
 use Rattle.rows.specs.Row.{too_short}
 use Rattle.rows.specs.steps.RowCheck.{too_long}
-use Rattle.rows.proofs.Blocks.{long-enough}
-use Rattle.rows.proofs.Faults.{ten-decides, one-decides, gate-decides, eight-decides, nine-decides}
+use Rattle.rows.proofs.Blocks.{long_enough}
+use Rattle.rows.proofs.Faults.{ten_decides, one_decides, gate_decides, eight_decides, nine_decides}
 use Rattle.rows.proofs.row_fault.Statement.{statement}
 use Rattle.rows.proofs.row_fault.Tie as tie
 
@@ -23,7 +23,7 @@ not-long c = sym c.before.too_long.ensures ∙ c.if2.false
 
 -- a row has no place for so many gates that their lines could not be counted
 few : (c : tie.Else1) → (start c).args.header.gates + 2 < 2 ^ 64
-few c = omega (arith, long-enough (start c).args.header.gates (start c).args.row.now (not_short c))
+few c = omega (arith, long_enough (start c).args.header.gates (start c).args.row.now (not_short c))
 
 too-short-requires : tie.Need-too-short-requires
 too-short-requires c κs = search rules
@@ -32,7 +32,7 @@ no-room-requires : tie.Need-no-room-requires
 no-room-requires c κs = search rules
 
 returns : tie.Need-returns
-returns c = rw c.no_room.ensures (ten-decides _ _ (sym c.before.before.too_short.ensures ∙ c.before.if1.true))
+returns c = rw c.no_room.ensures (ten_decides _ _ (sym c.before.before.too_short.ensures ∙ c.before.if1.true))
 
 too-long-requires : tie.Need-too-long-requires
 too-long-requires c κs = search rules
@@ -43,7 +43,7 @@ at-no-line-requires c κs = search rules
 returns-2 : tie.Need-returns-2
 returns-2 c =
     let long = not_short c.before.before.before in
-    rw c.at-no-line.ensures (one-decides _ _ long (sym c.before.before.too_long.ensures ∙ c.before.if2.true))
+    rw c.at_no_line.ensures (one_decides _ _ long (sym c.before.before.too_long.ensures ∙ c.before.if2.true))
 
 first-fault-requires : tie.Need-first-fault-requires
 first-fault-requires c κs = few c.before.before
@@ -58,9 +58,9 @@ returns-3 : tie.Need-returns-3
 returns-3 c =
     let found = c.before.before in
     let tests = found.before in
-    found.first-fault.ensures
-    ∙ gate-decides _ _ (not_short tests.before.before) (not-long tests)
-    (sym found.first-fault.ensures ∙ c.enum-told2.given.1)
+    found.first_fault.ensures
+    ∙ gate_decides _ _ (not_short tests.before.before) (not-long tests)
+    (sym found.first_fault.ensures ∙ c.enum-told2.given.1)
 
 fault-at-requires : tie.Need-fault-at-requires
 fault-at-requires c κs = search rules
@@ -71,8 +71,8 @@ returns-4 c =
     let found = told.before.before in
     let tests = found.before in
     c.fault-at.ensures
-    ∙ eight-decides _ _ (not_short tests.before.before) (not-long tests)
-    (sym found.first-fault.ensures ∙ told.enum_told.given.1) c.before.if3.true
+    ∙ eight_decides _ _ (not_short tests.before.before) (not-long tests)
+    (sym found.first_fault.ensures ∙ told.enum_told.given.1) c.before.if3.true
 
 first-heavy-requires : tie.Need-first-heavy-requires
 first-heavy-requires c κs = few c.before.before.before.before.before.before
@@ -82,9 +82,9 @@ returns-5 c =
     let told = c.before.before in
     let found = told.before.before in
     let tests = found.before in
-    c.first-heavy.ensures
-    ∙ nine-decides _ _ (not_short tests.before.before) (not-long tests)
-    (sym found.first-fault.ensures ∙ told.enum_told.given.1) c.before.if3.false
+    c.first_heavy.ensures
+    ∙ nine_decides _ _ (not_short tests.before.before) (not-long tests)
+    (sym found.first_fault.ensures ∙ told.enum_told.given.1) c.before.if3.false
 
 pub row-fault-spec : {M : Type 1} → statement M
 row-fault-spec =

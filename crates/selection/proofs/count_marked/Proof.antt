@@ -9,7 +9,7 @@ use borrow.Author.Rules.{rules}
 use borrow.Author.Tests.{ltb-true, ltb-false}
 use lib.ListN.{length, length-append}
 use Rattle.selection.specs.Selection.{roots}
-use Rattle.selection.proofs.Roots.{roots-none, roots-marked, roots-bare, roots-seen}
+use Rattle.selection.proofs.Roots.{roots_none, roots_marked, roots_bare, roots_seen}
 use Rattle.selection.proofs.count_marked.Statement.{statement}
 use Rattle.selection.proofs.count_marked.Tie as tie
 
@@ -20,7 +20,7 @@ abbrev decreases-loop : tie.decreases-loop
 decreases-loop gates marks count₀ v₀ count v = gates - v
 
 loop-holds : tie.Need-loop-init invariant-loop decreases-loop
-loop-holds c = (omega arith, omega arith, sym (ap length (roots-none c.args.marks.now)))
+loop-holds c = (omega arith, omega arith, sym (ap length (roots_none c.args.marks.now)))
 
 shared-slice-read-if2 : tie.Need-shared-slice-read-if2 invariant-loop decreases-loop
 shared-slice-read-if2 c = ltb-true _ _ c.before.if1.true
@@ -43,9 +43,9 @@ loop-again c =
     (λ w. (
       omega arith,
       omega arith,
-      omega (arith, ap length (roots-marked marks v w.0.taken), length-append (roots marks v) (v ∷ [])),
+      omega (arith, ap length (roots_marked marks v w.0.taken), length-append (roots marks v) (v ∷ [])),
     ))
-    (λ w. (omega arith, omega arith, omega (arith, ap length (roots-bare marks v w.0.left))))
+    (λ w. (omega arith, omega arith, omega (arith, ap length (roots_bare marks v w.0.left))))
     c.if2.branch
 
 returns : tie.Need-returns invariant-loop decreases-loop
@@ -53,14 +53,14 @@ returns c =
     let l = c.before.before in
     let a = l.before.args in
     l.loop.invariant.2
-    ∙ sym (ap length (roots-seen a.marks.now l.loop.v a.gates (omega arith) (inr (ltb-false _ _ c.if1.false))))
+    ∙ sym (ap length (roots_seen a.marks.now l.loop.v a.gates (omega arith) (inr (ltb-false _ _ c.if1.false))))
 
 returns-2 : tie.Need-returns-2 invariant-loop decreases-loop
 returns-2 c =
     let l = c.before in
     let a = l.before.args in
     l.loop.invariant.2
-    ∙ sym (ap length (roots-seen a.marks.now l.loop.v a.gates (omega arith) (inl c.loop-test.false)))
+    ∙ sym (ap length (roots_seen a.marks.now l.loop.v a.gates (omega arith) (inl c.loop-test.false)))
 
 pub count-marked-spec : {M : Type 1} → statement M
 count-marked-spec =

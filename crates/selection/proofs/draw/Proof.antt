@@ -2,8 +2,8 @@
 use mathlib.Core.Path.{◌∙◌, sym, ap}
 use borrow.Author.Rules.{rules}
 use Rattle.texts.specs.Reading.{refused}
-use Rattle.rows.proofs.Checked.{Known, check-network, check-else}
-use Rattle.selection.proofs.Answered.{drawn-refused, drawn-told}
+use Rattle.rows.proofs.Checked.{Known, check_network, check_else}
+use Rattle.selection.proofs.Answered.{drawn_refused, drawn_told}
 use Rattle.selection.proofs.draw.Statement.{statement}
 use Rattle.selection.proofs.draw.Tie as tie
 
@@ -14,7 +14,7 @@ stands : (c : tie.After-read)
 stands c =
     let check = c.before.before in
     let fit = check.before.before.before.shared-slice-known.given in
-    check-network _ _ (λ i. (fit i).fits) check.check.ensures c.read.given.1
+    check_network _ _ (λ i. (fit i).fits) check.check.ensures c.read.given.1
 
 check-requires : tie.Need-check-requires
 check-requires c κs = search rules
@@ -34,8 +34,8 @@ draw-known-requires c κs = (stands c.before.before).holds
 returns : tie.Need-returns
 returns c =
     let match = c.before.before in
-    let refused-is = check-else _ _ _ match.before.check.ensures match.match.keys2 in
-    drawn-refused _ _ (refused-is ∙ ap refused (sym c.refusal.ensures))
+    let refused-is = check_else _ _ _ match.before.check.ensures match.match.keys2 in
+    drawn_refused _ _ (refused-is ∙ ap refused (sym c.refusal.ensures))
 
 same_length : tie.Need-same-length
 same_length c = search rules
@@ -43,7 +43,7 @@ same_length c = search rules
 returns-2 : tie.Need-returns-2
 returns-2 c =
     let call = c.before.before in
-    drawn-told (stands call.before.before.before).answered call.draw-known.ensures
+    drawn_told (stands call.before.before.before).answered call.draw-known.ensures
 
 pub draw-spec : {M : Type 1} → statement M
 draw-spec =

@@ -10,11 +10,11 @@ use lib.ListN.{length, drop}
 use lib.Seq.{length-take-le}
 use Rattle.model.specs.Network.{Network}
 use Rattle.model.specs.Drawing.{marks}
-use Rattle.rows.specs.Row.{network-in}
-use Rattle.rows.proofs.Holds.{network-size}
+use Rattle.rows.specs.Row.{network_in}
+use Rattle.rows.proofs.Holds.{network_size}
 use Rattle.selection.specs.Selection.{roots}
-use Rattle.selection.proofs.Roots.{drawn-roots}
-use Rattle.selection.proofs.Answered.{drawn-short, drawn-made}
+use Rattle.selection.proofs.Roots.{drawn_roots}
+use Rattle.selection.proofs.Answered.{drawn_short, drawn_made}
 use Rattle.selection.proofs.draw_known.Statement.{statement}
 use Rattle.selection.proofs.draw_known.Tie as tie
 
@@ -24,7 +24,7 @@ no-room-requires c κs = search rules
 returns : tie.Need-returns
 returns c =
     let a = c.before.before.before.before.before.args in
-    drawn-short a.header a.row.now a.labels.now a.marks.now c.no_room.ensures
+    drawn_short a.header a.row.now a.labels.now a.marks.now c.no_room.ensures
     (⊎_elim (λ w. inl w.taken) (λ w. inr (ltb-true _ _ w.1.taken)) c.before.if1.branch)
 
 slice-relend-prefix-select : tie.Need-slice-relend-prefix-select
@@ -42,7 +42,7 @@ abbrev entered : tie.After-select → tie.Start
 entered c = c.before.before.before.before.before.before.before
 
 abbrev network : tie.Start → Network
-network s = network-in s.args.header s.args.row.now
+network s = network_in s.args.header s.args.row.now
 
 -- the rest of the row, as it was
 abbrev rest : tie.Start → List ℕ
@@ -70,12 +70,12 @@ returns-2 c =
     let called = c.before.before.before.before.before in
     let s = entered called in
     let a = s.args in
-    drawn-made a.header a.row.now a.labels.now a.marks.now called.before.before.before.if1.false
+    drawn_made a.header a.row.now a.labels.now a.marks.now called.before.before.before.if1.false
     (ltb-false _ _ called.before.before.if2.false)
-    (c.before.count-marked.ensures
+    (c.before.count_marked.ensures
     ∙ ap (λ (row : List ℕ). length (roots row a.header.gates)) (stands called)
-    ∙ ap length (drawn-roots (network s) a.labels.now a.header.gates (rest s) (network-size a.header a.row.now)))
-    c.output-delay.ensures
+    ∙ ap length (drawn_roots (network s) a.labels.now a.header.gates (rest s) (network_size a.header a.row.now)))
+    c.output_delay.ensures
     (stands called)
 
 pub draw-known-spec : {M : Type 1} → statement M

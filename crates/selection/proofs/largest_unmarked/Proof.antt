@@ -6,20 +6,20 @@ use native.Mathlib.Omega.{arith}
 use borrow.Author.Rules.{rules}
 use lib.ListN.{get_or}
 use Rattle.model.specs.Basics.{keep, upto, largest}
-use Rattle.selection.specs.steps.Marking.{unmarked, largest-label, or-label}
-use Rattle.selection.proofs.Marks.{largest-next}
+use Rattle.selection.specs.steps.Marking.{unmarked, largest_label, or_label}
+use Rattle.selection.proofs.Marks.{largest_next}
 use Rattle.selection.proofs.largest_unmarked.Statement.{statement}
 use Rattle.selection.proofs.largest_unmarked.Tie as tie
 
 abbrev invariant-loop : tie.invariant-loop
 invariant-loop row gates labels largest₀ v₀ largest v =
-    (v ≤ gates) × (largest.0 ≡ largest-label labels (unmarked row v))
+    (v ≤ gates) × (largest.0 ≡ largest_label labels (unmarked row v))
 
 abbrev decreases-loop : tie.decreases-loop
 decreases-loop row gates labels largest₀ v₀ largest v = gates - v
 
 loop-holds : tie.Need-loop-init invariant-loop decreases-loop
-unfolding largest-label unmarked upto keep largest
+unfolding largest_label unmarked upto keep largest
 loop-holds c = (omega arith, refl)
 
 element-copy-out-or-label : tie.Need-element-copy-out-or-label invariant-loop decreases-loop
@@ -45,16 +45,16 @@ loop-again c =
     let b = c.before.before.before.before in
     let a = b.before.before.args in (
       omega arith,
-      c.or-label.ensures
-          ∙ ap (λ (t : ℕ). or-label t (get_or a.row.now b.loop.v 0) (get_or a.labels.now b.loop.v 0)) b.loop.invariant.1
-          ∙ largest-next a.labels.now a.row.now b.loop.v,
+      c.or_label.ensures
+          ∙ ap (λ (t : ℕ). or_label t (get_or a.row.now b.loop.v 0) (get_or a.labels.now b.loop.v 0)) b.loop.invariant.1
+          ∙ largest_next a.labels.now a.row.now b.loop.v,
     )
 
 returns : tie.Need-returns invariant-loop decreases-loop
 returns c =
     let a = c.before.before.before.args in
     let e : c.before.loop.v ≡ a.gates = omega arith in
-    c.before.loop.invariant.1 ∙ ap (λ (k : ℕ). largest-label a.labels.now (unmarked a.row.now k)) e
+    c.before.loop.invariant.1 ∙ ap (λ (k : ℕ). largest_label a.labels.now (unmarked a.row.now k)) e
 
 pub largest-unmarked-spec : {M : Type 1} → statement M
 largest-unmarked-spec =

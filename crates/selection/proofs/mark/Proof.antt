@@ -5,8 +5,8 @@ use mathlib.Core.Path.{◌≡◌, refl, sym, ◌∙◌}
 use native.Mathlib.Omega.{arith}
 use lib.ListN.{length, drop}
 use Rattle.model.specs.Drawing.{mark}
-use Rattle.labelling.proofs.Lists.{getD-in}
-use Rattle.selection.proofs.Marks.{mark-next, mark-done}
+use Rattle.labelling.proofs.Lists.{get_or_in}
+use Rattle.selection.proofs.Marks.{mark_next, mark_done}
 use Rattle.selection.proofs.mark.Statement.{statement}
 use Rattle.selection.proofs.mark.Tie as tie
 
@@ -30,7 +30,7 @@ cast-row : tie.Need-overflow-cast-row invariant-loop decreases-loop
 cast-row c = omega (arith, c.shared-slice-known.given c.before.before.loop.i)
 
 element-write-row : tie.Need-element-write-row invariant-loop decreases-loop
-element-write-row c = c.before.before.before.requires _ (getD-in _ c.before.before.loop.i (omega arith))
+element-write-row c = c.before.before.before.requires _ (get_or_in _ c.before.before.loop.i (omega arith))
 
 add-i : tie.Need-overflow-add-i invariant-loop decreases-loop
 add-i c = omega arith
@@ -41,10 +41,10 @@ loop-less c = omega arith
 loop-again : tie.Need-loop-preserved invariant-loop decreases-loop
 loop-again c =
     let b = c.before.before in
-    (omega arith, b.loop.invariant.1, mark-next b.loop.row _ b.loop.i (omega arith) ∙ b.loop.invariant.2)
+    (omega arith, b.loop.invariant.1, mark_next b.loop.row _ b.loop.i (omega arith) ∙ b.loop.invariant.2)
 
 returns : tie.Need-returns invariant-loop decreases-loop
-returns c = sym (mark-done _ _ c.before.loop.i (omega arith)) ∙ c.before.loop.invariant.2
+returns c = sym (mark_done _ _ c.before.loop.i (omega arith)) ∙ c.before.loop.invariant.2
 
 pub mark_spec : {M : Type 1} → statement M
 mark_spec =

@@ -7,17 +7,17 @@ use native.Mathlib.Omega.{arith}
 use borrow.Author.Rules.{rules}
 use lib.ListN.{length, get_or, drop}
 use Rattle.model.specs.Drawing.{mark}
-use Rattle.rows.proofs.Holds.{few-gates, fanins-below}
-use Rattle.labelling.proofs.Lists.{getD-in}
-use Rattle.selection.specs.steps.Marking.{fanins-of, outside}
-use Rattle.selection.proofs.Marks.{inputs-next, inputs-done}
+use Rattle.rows.proofs.Holds.{few_gates, fanins_below}
+use Rattle.labelling.proofs.Lists.{get_or_in}
+use Rattle.selection.specs.steps.Marking.{fanins_of, outside}
+use Rattle.selection.proofs.Marks.{inputs_next, inputs_done}
 use Rattle.selection.proofs.mark_inputs.Statement.{statement}
 use Rattle.selection.proofs.mark_inputs.Tie as tie
 
 abbrev invariant-loop : tie.invariant-loop
 invariant-loop marks₀ inside row members i₀ i-end marks i =
     (i ≤ length members) × (i-end ≡ length members) × (length marks ≡ length marks₀)
-    × (mark marks (outside inside (fanins-of row (drop i members))) ≡ mark marks₀ (outside inside (fanins-of row members)))
+    × (mark marks (outside inside (fanins_of row (drop i members))) ≡ mark marks₀ (outside inside (fanins_of row members)))
 
 abbrev decreases-loop : tie.decreases-loop
 decreases-loop marks₀ inside row members i₀ i-end marks i = length members - i
@@ -43,9 +43,9 @@ mark-outside-requires c κs =
     let s = l.before.before.before.before in
     let h = s.requires.0 in
     let member = get_or s.args.members.now l.loop.i 0 in
-    let known : member < s.args.header.gates = s.requires.2 _ (getD-in _ l.loop.i (omega arith)) in (
-      rw c.fan-ins.ensures (λ x m. omega (arith, l.loop.invariant.2, s.requires.1, fanins-below _ _ h member known x m)),
-      omega (arith, l.loop.invariant.2, s.requires.1, few-gates _ _ h),
+    let known : member < s.args.header.gates = s.requires.2 _ (get_or_in _ l.loop.i (omega arith)) in (
+      rw c.fan_ins.ensures (λ x m. omega (arith, l.loop.invariant.2, s.requires.1, fanins_below _ _ h member known x m)),
+      omega (arith, l.loop.invariant.2, s.requires.1, few_gates _ _ h),
     )
 
 add-i : tie.Need-overflow-add-i invariant-loop decreases-loop
@@ -62,9 +62,9 @@ loop-again c =
       omega arith,
       refl,
       omega arith,
-      ap (λ (row : List ℕ). mark row (outside a.inside.now (fanins-of a.row.now (drop (l.loop.i + 1) a.members.now))))
-          (call.ensures ∙ rw c.before.before.before.fan-ins.ensures)
-          ∙ inputs-next a.inside.now a.row.now l.loop.marks a.members.now l.loop.i (omega arith)
+      ap (λ (row : List ℕ). mark row (outside a.inside.now (fanins_of a.row.now (drop (l.loop.i + 1) a.members.now))))
+          (call.ensures ∙ rw c.before.before.before.fan_ins.ensures)
+          ∙ inputs_next a.inside.now a.row.now l.loop.marks a.members.now l.loop.i (omega arith)
           ∙ l.loop.invariant.3,
     )
 
@@ -72,7 +72,7 @@ same_length : tie.Need-same-length invariant-loop decreases-loop
 same_length c = c.before.loop.invariant.2
 
 returns : tie.Need-returns invariant-loop decreases-loop
-returns c = sym (inputs-done _ _ _ _ c.before.loop.i (omega arith)) ∙ c.before.loop.invariant.3
+returns c = sym (inputs_done _ _ _ _ c.before.loop.i (omega arith)) ∙ c.before.loop.invariant.3
 
 pub mark-inputs-spec : {M : Type 1} → statement M
 mark-inputs-spec =

@@ -1,7 +1,7 @@
 -- `selection::mark_outputs` meets its contract: the gates without a mark are those that no gate reads.
 use native.Mathlib.Omega.{arith}
 use borrow.Author.Rules.{rules}
-use Rattle.rows.proofs.Holds.{few-gates}
+use Rattle.rows.proofs.Holds.{few_gates}
 use Rattle.selection.specs.steps.Marking.{unread}
 use Rattle.selection.proofs.mark_outputs.Statement.{statement}
 use Rattle.selection.proofs.mark_outputs.Tie as tie
@@ -12,7 +12,7 @@ reads-requires c κs = search rules
 mark-unmarked-requires : tie.Need-mark-unmarked-requires
 mark-unmarked-requires c κs =
     let s = c.before.before.before.before.before.before in
-    omega (arith, s.requires.1, few-gates _ _ s.requires.0)
+    omega (arith, s.requires.1, few_gates _ _ s.requires.0)
 
 same_length : tie.Need-same-length
 same_length c = search rules

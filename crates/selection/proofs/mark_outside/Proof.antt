@@ -7,9 +7,9 @@ use native.Mathlib.Omega.{arith}
 use borrow.Author.Rules.{rules}
 use lib.ListN.{length, drop}
 use Rattle.model.specs.Drawing.{mark}
-use Rattle.labelling.proofs.Lists.{getD-in}
+use Rattle.labelling.proofs.Lists.{get_or_in}
 use Rattle.selection.specs.steps.Marking.{outside}
-use Rattle.selection.proofs.Marks.{outside-next, outside-done}
+use Rattle.selection.proofs.Marks.{outside_next, outside_done}
 use Rattle.selection.proofs.mark_outside.Statement.{statement}
 use Rattle.selection.proofs.mark_outside.Tie as tie
 
@@ -37,7 +37,7 @@ mark-if-outside-requires : tie.Need-mark-if-outside-requires invariant-loop decr
 mark-if-outside-requires c κs =
     let l = c.before.before.before in
     let s = l.before.before.before in
-    let below = s.requires.0 _ (getD-in _ l.loop.i (omega arith)) in
+    let below = s.requires.0 _ (get_or_in _ l.loop.i (omega arith)) in
     (omega arith, omega arith)
 
 add-i : tie.Need-overflow-add-i invariant-loop decreases-loop
@@ -55,7 +55,7 @@ loop-again c =
       refl,
       omega arith,
       ap (λ (row : List ℕ). mark row (outside a.inside.now (drop (l.loop.i + 1) a.gates.now))) call.ensures
-          ∙ outside-next a.inside.now l.loop.marks a.gates.now l.loop.i (omega arith)
+          ∙ outside_next a.inside.now l.loop.marks a.gates.now l.loop.i (omega arith)
           ∙ l.loop.invariant.3,
     )
 
@@ -63,7 +63,7 @@ same_length : tie.Need-same-length invariant-loop decreases-loop
 same_length c = c.before.loop.invariant.2
 
 returns : tie.Need-returns invariant-loop decreases-loop
-returns c = sym (outside-done _ _ _ c.before.loop.i (omega arith)) ∙ c.before.loop.invariant.3
+returns c = sym (outside_done _ _ _ c.before.loop.i (omega arith)) ∙ c.before.loop.invariant.3
 
 pub mark-outside-spec : {M : Type 1} → statement M
 mark-outside-spec =

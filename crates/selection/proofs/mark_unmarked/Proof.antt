@@ -4,7 +4,7 @@ use mathlib.Core.Path.{◌≡◌, refl}
 use native.Mathlib.Omega.{arith}
 use borrow.Author.Rules.{rules}
 use lib.ListN.{length}
-use Rattle.selection.proofs.Marks.{Started, started_none, started-next, started-long, started-all}
+use Rattle.selection.proofs.Marks.{Started, started_none, started_next, started_long, started_all}
 use Rattle.selection.proofs.mark_unmarked.Statement.{statement}
 use Rattle.selection.proofs.mark_unmarked.Tie as tie
 
@@ -27,7 +27,7 @@ slice-write-marks : tie.Need-slice-write-marks invariant-loop decreases-loop
 slice-write-marks c =
     let l = c.before.before.before in
     let a = l.before.before.args in
-    omega (arith, started-long a.row.now a.marks.now l.loop.marks l.loop.v (omega arith) l.loop.invariant.2)
+    omega (arith, started_long a.row.now a.marks.now l.loop.marks l.loop.v (omega arith) l.loop.invariant.2)
 
 add-v : tie.Need-overflow-add-v invariant-loop decreases-loop
 add-v c = search rules
@@ -41,7 +41,7 @@ loop-again c =
     let a = l.before.before.args in (
       omega arith,
       refl,
-      started-next a.row.now a.marks.now l.loop.marks l.loop.v _ (omega arith) l.loop.invariant.2
+      started_next a.row.now a.marks.now l.loop.marks l.loop.v _ (omega arith) l.loop.invariant.2
           c.output-mark.ensures,
     )
 
@@ -49,14 +49,14 @@ same_length : tie.Need-same-length invariant-loop decreases-loop
 same_length c =
     let l = c.before in
     let a = l.before.before.args in
-    started-long a.row.now a.marks.now l.loop.marks l.loop.v (omega arith) l.loop.invariant.2
+    started_long a.row.now a.marks.now l.loop.marks l.loop.v (omega arith) l.loop.invariant.2
 
 returns : tie.Need-returns invariant-loop decreases-loop
 returns c =
     let l = c.before in
     let a = l.before.before.args in
     let e : length a.marks.now ≡ l.loop.v = omega arith in
-    rw e (started-all a.row.now a.marks.now l.loop.marks l.loop.v e l.loop.invariant.2)
+    rw e (started_all a.row.now a.marks.now l.loop.marks l.loop.v e l.loop.invariant.2)
 
 pub mark-unmarked-spec : {M : Type 1} → statement M
 mark-unmarked-spec =

@@ -6,20 +6,20 @@ use native.Mathlib.Omega.{arith}
 use borrow.Author.Rules.{rules}
 use Rattle.model.specs.Basics.{gather, upto}
 use Rattle.model.specs.Drawing.{mark}
-use Rattle.rows.proofs.Holds.{few-gates, fanins-below}
-use Rattle.selection.specs.steps.Marking.{fanins-of}
-use Rattle.selection.proofs.Marks.{fanins-next}
+use Rattle.rows.proofs.Holds.{few_gates, fanins_below}
+use Rattle.selection.specs.steps.Marking.{fanins_of}
+use Rattle.selection.proofs.Marks.{fanins_next}
 use Rattle.selection.proofs.reads.Statement.{statement}
 use Rattle.selection.proofs.reads.Tie as tie
 
 abbrev invariant-loop : tie.invariant-loop
-invariant-loop read₀ row gates v₀ read v = (v ≤ gates) × (read ≡ mark read₀ (fanins-of row (upto v)))
+invariant-loop read₀ row gates v₀ read v = (v ≤ gates) × (read ≡ mark read₀ (fanins_of row (upto v)))
 
 abbrev decreases-loop : tie.decreases-loop
 decreases-loop read₀ row gates v₀ read v = gates - v
 
 loop-holds : tie.Need-loop-init invariant-loop decreases-loop
-unfolding fanins-of upto gather mark
+unfolding fanins_of upto gather mark
 loop-holds c = (omega arith, refl)
 
 fan-ins-requires : tie.Need-fan-ins-requires invariant-loop decreases-loop
@@ -29,8 +29,8 @@ mark-requires : tie.Need-mark-requires invariant-loop decreases-loop
 mark-requires c κs =
     let l = c.before.before.before in
     let s = l.before.before in
-    rw c.fan-ins.ensures
-    (λ x m. omega (arith, few-gates _ _ s.requires, fanins-below _ _ s.requires l.loop.v (omega arith) x m))
+    rw c.fan_ins.ensures
+    (λ x m. omega (arith, few_gates _ _ s.requires, fanins_below _ _ s.requires l.loop.v (omega arith) x m))
 
 add-v : tie.Need-overflow-add-v invariant-loop decreases-loop
 add-v c = search rules
@@ -44,14 +44,14 @@ loop-again c =
     let a = l.before.before.args in (
       omega arith,
       c.mark.ensures
-          ∙ rw (c.before.fan-ins.ensures, l.loop.invariant.1) (fanins-next a.row.now a.read.now l.loop.v),
+          ∙ rw (c.before.fan_ins.ensures, l.loop.invariant.1) (fanins_next a.row.now a.read.now l.loop.v),
     )
 
 returns : tie.Need-returns invariant-loop decreases-loop
 returns c =
     let a = c.before.before.before.args in
     let e : c.before.loop.v ≡ a.header.gates = omega arith in
-    c.before.loop.invariant.1 ∙ ap (λ (k : ℕ). mark a.read.now (fanins-of a.row.now (upto k))) e
+    c.before.loop.invariant.1 ∙ ap (λ (k : ℕ). mark a.read.now (fanins_of a.row.now (upto k))) e
 
 pub reads-spec : {M : Type 1} → statement M
 reads-spec =

@@ -7,21 +7,21 @@ use borrow.Author.Rules.{rules}
 use lib.ListN.{length}
 use Rattle.model.specs.Network.{Network}
 use Rattle.model.specs.Drawing.{select}
-use Rattle.rows.specs.Row.{network-in}
-use Rattle.selection.proofs.Selected.{select-marked, select-bare, select-none}
+use Rattle.rows.specs.Row.{network_in}
+use Rattle.selection.proofs.Selected.{select_marked, select_bare, select_none}
 use Rattle.selection.proofs.sweep.Statement.{statement}
 use Rattle.selection.proofs.sweep.Tie as tie
 
 abbrev invariant-loop : tie.invariant-loop
 invariant-loop header row labels marks₀ left₀ marks left =
     (left ≤ header.gates) × (length marks ≡ header.gates)
-    × (select (network-in header row) labels left marks ≡ select (network-in header row) labels header.gates marks₀)
+    × (select (network_in header row) labels left marks ≡ select (network_in header row) labels header.gates marks₀)
 
 abbrev decreases-loop : tie.decreases-loop
 decreases-loop header row labels marks₀ left₀ marks left = left
 
 abbrev network : tie.Start invariant-loop decreases-loop → Network
-network s = network-in s.args.header s.args.row.now
+network s = network_in s.args.header s.args.row.now
 
 loop-holds : tie.Need-loop-init invariant-loop decreases-loop
 loop-holds c = (omega arith, c.before.before.before.requires.2, refl)
@@ -52,7 +52,7 @@ loop-again c =
       omega arith,
       omega (arith, l.loop.invariant.1),
       rw call.ensures
-          (select-marked (network s) labels l.loop.marks (left - 1) c.before.before.before.before.if1.true
+          (select_marked (network s) labels l.loop.marks (left - 1) c.before.before.before.before.if1.true
           ∙ rw one l.loop.invariant.2),
     )
 
@@ -67,7 +67,7 @@ loop-again-2 c =
     let one : suc (left - 1) ≡ left = omega arith in (
       omega arith,
       l.loop.invariant.1,
-      select-bare (network s) s.args.labels.now l.loop.marks (left - 1) c.if1.false ∙ rw one l.loop.invariant.2,
+      select_bare (network s) s.args.labels.now l.loop.marks (left - 1) c.if1.false ∙ rw one l.loop.invariant.2,
     )
 
 same_length : tie.Need-same-length invariant-loop decreases-loop
@@ -78,7 +78,7 @@ returns c =
     let l = c.before in
     let s = l.before.before.before.before in
     let none_left : l.loop.left ≡ 0 = omega arith in
-    sym (select-none (network s) s.args.labels.now l.loop.marks)
+    sym (select_none (network s) s.args.labels.now l.loop.marks)
     ∙ rw none_left at l.loop.invariant.2
 
 pub sweep-spec : {M : Type 1} → statement M

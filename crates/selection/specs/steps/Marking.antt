@@ -1,13 +1,13 @@
 -- What selection finds in the rows, step by step.
 use Rattle.std.specs.Prelude.{ℕ, max, cond, List, map, eqb, get_or, replicate}
 use Rattle.model.specs.Basics.{keep, gather, upto, largest}
-use Rattle.model.specs.Ceilings.{most-gates}
+use Rattle.model.specs.Ceilings.{most_gates}
 use Rattle.model.specs.Drawing.{mark}
-use Rattle.rows.specs.Row.{fanins-in}
+use Rattle.rows.specs.Row.{fanins_in}
 
 -- the fan-ins of some gates, one gate after the other
-unfoldable pub fanins-of : List ℕ → List ℕ → List ℕ
-fanins-of row gates = gather (fanins-in row) gates
+unfoldable pub fanins_of : List ℕ → List ℕ → List ℕ
+fanins_of row gates = gather (fanins_in row) gates
 
 -- the gates below k without a mark, rising
 unfoldable pub unmarked : List ℕ → ℕ → List ℕ
@@ -15,16 +15,16 @@ unmarked row k = keep (λ v. eqb (get_or row v 0) 0) (upto k)
 
 -- the gates that no gate reads, rising
 unfoldable pub unread : List ℕ → ℕ → List ℕ
-unfolding unmarked fanins-of mark
-unread row gates = unmarked (mark (replicate most-gates 0) (fanins-of row (upto gates))) gates
+unfolding unmarked fanins_of mark
+unread row gates = unmarked (mark (replicate most_gates 0) (fanins_of row (upto gates))) gates
 
 -- the largest label of some gates, 0 if there are none
-unfoldable pub largest-label : List ℕ → List ℕ → ℕ
-largest-label labels gates = largest (map (λ v. get_or labels v 0) gates)
+unfoldable pub largest_label : List ℕ → List ℕ → ℕ
+largest_label labels gates = largest (map (λ v. get_or labels v 0) gates)
 
 -- the larger of a time and a gate's label, if the gate has no mark
-abbrev pub or-label : ℕ → ℕ → ℕ → ℕ
-or-label time mark label = cond (eqb mark 0) (max time label) time
+abbrev pub or_label : ℕ → ℕ → ℕ → ℕ
+or_label time mark label = cond (eqb mark 0) (max time label) time
 
 -- the gates of a list without a mark among those inside
 unfoldable pub outside : List ℕ → List ℕ → List ℕ

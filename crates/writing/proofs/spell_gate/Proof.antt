@@ -5,12 +5,12 @@ use mathlib.Core.List.{List}
 use native.Mathlib.Omega.{arith}
 use lib.ListN.{length}
 use borrow.Author.Rules.{rules}
-use Rattle.model.specs.Ceilings.{most-fanins}
-use Rattle.frames.specs.Digits.{spell-line}
+use Rattle.model.specs.Ceilings.{most_fanins}
+use Rattle.frames.specs.Digits.{spell_line}
 use Rattle.frames.proofs.Puts.{Stands}
-use Rattle.frames.proofs.WrittenLines.{line-short, line-ends}
-use Rattle.rows.specs.Spelling.{gate-line}
-use Rattle.writing.proofs.WrittenLines.{frame, gate-stands, length-gate-line, few-fanins, gate-line-is}
+use Rattle.frames.proofs.WrittenLines.{line_short, line_ends}
+use Rattle.rows.specs.Spelling.{gate_line}
+use Rattle.writing.proofs.WrittenLines.{frame, gate_stands, length_gate_line, few_fanins, gate_line_is}
 use Rattle.writing.proofs.spell_gate.Statement.{statement}
 use Rattle.writing.proofs.spell_gate.Tie as tie
 
@@ -19,21 +19,21 @@ entered c = c.before.before.before
 
 -- the line that is asked for, and the row as it was
 abbrev line : tie.After-fan-ins → List ℕ
-line c = let a = (entered c).args in gate-line a.row.now a.gate
+line c = let a = (entered c).args in gate_line a.row.now a.gate
 
 abbrev out : tie.After-fan-ins → List ℕ
 out c = (entered c).args.out.now
 
 -- the fan-ins, as their accessor answers them
 abbrev fanins : tie.After-fan-ins → List ℕ
-fanins c = c.fan-ins.result.now
+fanins c = c.fan_ins.result.now
 
-few : (c : tie.After-fan-ins) → length (fanins c) ≤ most-fanins
-few c = let s = entered c in few-fanins s.pre.0 s.pre.1 c.fan-ins.ensures
+few : (c : tie.After-fan-ins) → length (fanins c) ≤ most_fanins
+few c = let s = entered c in few_fanins s.pre.0 s.pre.1 c.fan_ins.ensures
 
 -- So many places are what the line needs.
 needed : (c : tie.After-fan-ins) → length (line c) ≡ 13 + 4 * length (fanins c)
-needed c = let a = (entered c).args in omega (arith, length-gate-line a.row.now a.gate, ap length c.fan-ins.ensures)
+needed c = let a = (entered c).args in omega (arith, length_gate_line a.row.now a.gate, ap length c.fan_ins.ensures)
 
 -- Where type, weight and delay have been put, and where the row was found long enough.
 abbrev delay : tie.After-put-byte-arg2 → tie.After-put-word2
@@ -52,20 +52,20 @@ tested c = (kind c).before.before
 abbrev bytes : tie.After-put-byte-arg2 → List ℕ
 bytes c =
     let fs = fanins (tested c).before in
-    frame (weight c).before.weight-place.result (delay c).before.delay-place.result (length fs) fs
+    frame (weight c).before.weight_place.result (delay c).before.delay_place.result (length fs) fs
 
-is-line : (c : tie.After-put-byte-arg2) → line (tested c).before ≡ spell-line (bytes c)
+is-line : (c : tie.After-put-byte-arg2) → line (tested c).before ≡ spell_line (bytes c)
 is-line c =
     let s = entered (tested c).before in
     let w = (weight c).before in
     let d = (delay c).before in
-    gate-line-is s.pre.0 s.pre.1 w.before.weight.ensures
-    w.weight-place.ensures
+    gate_line_is s.pre.0 s.pre.1 w.before.weight.ensures
+    w.weight_place.ensures
     d.before.delay.ensures
-    d.delay-place.ensures
-    (tested c).before.fan-ins.ensures
+    d.delay_place.ensures
+    (tested c).before.fan_ins.ensures
 
-fits : (c : tie.After-put-byte-arg2) → length (spell-line (bytes c)) ≤ length (out (tested c).before)
+fits : (c : tie.After-put-byte-arg2) → length (spell_line (bytes c)) ≤ length (out (tested c).before)
 fits c = let test = tested c in omega (arith, ap length (is-line c), needed test.before, test.if1.left)
 
 abbrev counted : tie.After-put-words → tie.After-put-byte2
@@ -76,7 +76,7 @@ stands : (c : tie.After-put-words)
     Stands (bytes parts) 0 (out (tested parts).before) c.put-words.result c.put-words.new.0
 stands c =
     let parts = (counted c).before in
-    gate-stands _ _ _ _ (tested parts).if1.left
+    gate_stands _ _ _ _ (tested parts).if1.left
     (kind parts).put_byte.ensures
     (weight parts).put_word.ensures
     (delay parts).put-word2.ensures
@@ -98,7 +98,7 @@ no-room-requires c κs = search rules
 returns : tie.Need-returns
 returns c =
     let test = c.before in
-    line-short (line test.before) (out test.before) c.no_room.ensures (omega (arith, needed test.before, test.if1.true))
+    line_short (line test.before) (out test.before) c.no_room.ensures (omega (arith, needed test.before, test.if1.true))
 
 put-byte-requires : tie.Need-put-byte-requires
 put-byte-requires c κs = search rules
@@ -141,7 +141,7 @@ returns-2 c =
     let fed = c.before.before in
     let put = fed.before.before.before.before in
     let parts = (counted put).before in
-    rw (is-line parts) (line-ends (bytes parts) (out (tested parts).before) _ _ (fits parts) (stands put) _ _ fed.feed.ensures)
+    rw (is-line parts) (line_ends (bytes parts) (out (tested parts).before) _ _ (fits parts) (stands put) _ _ fed.feed.ensures)
 
 pub spell-gate-spec : {M : Type 1} → statement M
 spell-gate-spec =

@@ -3,9 +3,9 @@
 use Prim.Native.Nat.{◌<◌, ◌-◌}
 use native.Mathlib.Omega.{arith}
 use borrow.Author.Rules.{rules}
-use Rattle.frames.proofs.WrittenLines.{line-none}
-use Rattle.rows.proofs.Holds.{few-gates}
-use Rattle.writing.proofs.WrittenLines.{header_at, gate-at, end-at, none-at}
+use Rattle.frames.proofs.WrittenLines.{line_none}
+use Rattle.rows.proofs.Holds.{few_gates}
+use Rattle.writing.proofs.WrittenLines.{header_at, gate_at, end_at, none_at}
 use Rattle.writing.proofs.spell_line.Statement.{statement}
 use Rattle.writing.proofs.spell_line.Tie as tie
 
@@ -27,7 +27,7 @@ returns c =
     let placed = call.before.before in
     let test = placed.before.before.before.before in
     let s = test.before.before.before in
-    rw (header_at s.args.header s.args.row.now test.if1.true placed.before.capacity-place.ensures placed.delay-place.ensures)
+    rw (header_at s.args.header s.args.row.now test.if1.true placed.before.capacity_place.ensures placed.delay_place.ensures)
     call.spell-header.ensures
 
 sub-gate : tie.Need-overflow-sub-gate
@@ -43,13 +43,13 @@ returns-2 : tie.Need-returns-2
 returns-2 c =
     let test = c.before.before.before.before in
     let s = test.before.before.before.before in
-    rw (gate-at s.args.header s.args.row.now s.args.index test.before.if1.false test.if2.true)
+    rw (gate_at s.args.header s.args.row.now s.args.index test.before.if1.false test.if2.true)
     c.before.before.spell-gate.ensures
 
 cast-spell-end : tie.Need-overflow-cast-spell-end
 cast-spell-end c =
     let s = c.before.before.before.before.before in
-    record { fits = omega (arith, few-gates s.args.header s.args.row.now s.requires) }
+    record { fits = omega (arith, few_gates s.args.header s.args.row.now s.requires) }
 
 spell-end-requires : tie.Need-spell-end-requires
 spell-end-requires c κs = search rules
@@ -61,15 +61,15 @@ returns-3 : tie.Need-returns-3
 returns-3 c =
     let test = c.before.before.before.before in
     let s = test.before.before.before.before.before in
-    rw (end-at s.args.header s.args.row.now s.args.index test.before.before.if1.false test.if3.true)
+    rw (end_at s.args.header s.args.row.now s.args.index test.before.before.if1.false test.if3.true)
     c.before.before.spell-end.ensures
 
 returns-4 : tie.Need-returns-4
 returns-4 c =
     let s = c.before.before.before.before.before in
     let past : s.args.header.gates < s.args.index - 1 = omega (arith, c.before.if2.false, c.if3.false) in
-    rw (none-at s.args.header s.args.row.now s.args.index c.before.before.if1.false past)
-    (line-none _)
+    rw (none_at s.args.header s.args.row.now s.args.index c.before.before.if1.false past)
+    (line_none _)
 
 pub spell-line-spec : {M : Type 1} → statement M
 spell-line-spec =

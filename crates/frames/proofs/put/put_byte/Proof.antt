@@ -6,8 +6,8 @@ use native.Mathlib.Numerals.{add-one}
 use native.Mathlib.Omega.{arith}
 use borrow.Author.Rules.{rules}
 use lib.ListN.{length, length-set}
-use Rattle.frames.specs.Digits.{byte-digits, digits}
-use Rattle.frames.proofs.Puts.{has_room, no_room, put-none, put_all}
+use Rattle.frames.specs.Digits.{byte_digits, digits}
+use Rattle.frames.proofs.Puts.{has_room, no_room, put_none, put_all}
 use Rattle.frames.proofs.put.put_byte.Statement.{statement}
 use Rattle.frames.proofs.put.put_byte.Tie as tie
 
@@ -39,7 +39,7 @@ same_length : tie.Need-same-length
 same_length c = search rules
 
 returns : tie.Need-returns
-unfolding digits byte-digits
+unfolding digits byte_digits
 returns c =
     let a = c.before.before.before.before.before.args in
     put_all (a.b ∷ []) a.at a.out.now _ _ (fits c.before.before)
@@ -49,7 +49,7 @@ returns-2 : tie.Need-returns-2
 unfolding digits
 returns-2 c =
     let a = c.before.before.before.args in
-    put-none (a.b ∷ []) a.at a.out.now (no_room a.at 2 _ c.before.has_room.ensures c.if1.false)
+    put_none (a.b ∷ []) a.at a.out.now (no_room a.at 2 _ c.before.has_room.ensures c.if1.false)
 
 pub put-byte-spec : {M : Type 1} → statement M
 put-byte-spec =

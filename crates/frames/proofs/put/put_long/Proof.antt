@@ -1,8 +1,8 @@
 -- `frames::put::put_long` meets its contract: two words put one after the other, the higher one first.
 use Prim.Native.Nat.{◌/◌, ◌%◌}
 use borrow.Author.Rules.{rules}
-use Rattle.frames.specs.Digits.{byte-digits, word_bytes, long-bytes, digits}
-use Rattle.frames.proofs.Puts.{has_room, no_room, put-none, puts}
+use Rattle.frames.specs.Digits.{byte_digits, word_bytes, long_bytes, digits}
+use Rattle.frames.proofs.Puts.{has_room, no_room, put_none, puts}
 use Rattle.frames.proofs.put.put_long.Statement.{statement}
 use Rattle.frames.proofs.put.put_long.Tie as tie
 
@@ -25,7 +25,7 @@ same_length : tie.Need-same-length
 same_length c = search rules
 
 returns : tie.Need-returns
-unfolding digits byte-digits long-bytes
+unfolding digits byte_digits long_bytes
 returns c =
     let first = c.before.before.before.before.before.before in
     let tested = first.before.before in
@@ -36,10 +36,10 @@ returns c =
     c.before.before.put-word2.ensures
 
 returns-2 : tie.Need-returns-2
-unfolding digits byte-digits long-bytes
+unfolding digits byte_digits long_bytes
 returns-2 c =
     let a = c.before.before.before.args in
-    put-none (long-bytes a.w) a.at a.out.now (no_room a.at 8 _ c.before.has_room.ensures c.if1.false)
+    put_none (long_bytes a.w) a.at a.out.now (no_room a.at 8 _ c.before.has_room.ensures c.if1.false)
 
 pub put-long-spec : {M : Type 1} → statement M
 put-long-spec =

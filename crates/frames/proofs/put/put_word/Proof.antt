@@ -4,8 +4,8 @@ use mathlib.Core.Path.{◌≡◌}
 use mathlib.Core.List.{[], ◌∷◌}
 use native.Mathlib.Omega.{arith}
 use borrow.Author.Rules.{rules}
-use Rattle.frames.specs.Digits.{byte-digits, word_bytes, digits}
-use Rattle.frames.proofs.Puts.{has_room, no_room, put-none, puts}
+use Rattle.frames.specs.Digits.{byte_digits, word_bytes, digits}
+use Rattle.frames.proofs.Puts.{has_room, no_room, put_none, puts}
 use Rattle.frames.proofs.put.put_word.Statement.{statement}
 use Rattle.frames.proofs.put.put_word.Tie as tie
 
@@ -28,7 +28,7 @@ same_length : tie.Need-same-length
 same_length c = search rules
 
 returns : tie.Need-returns
-unfolding digits byte-digits word_bytes
+unfolding digits byte_digits word_bytes
 returns c =
     let first = c.before.before.before.before.before.before in
     let tested = first.before.before in
@@ -42,10 +42,10 @@ returns c =
     c.before.before.put-byte2.ensures)
 
 returns-2 : tie.Need-returns-2
-unfolding digits byte-digits word_bytes
+unfolding digits byte_digits word_bytes
 returns-2 c =
     let a = c.before.before.before.args in
-    put-none (word_bytes a.w) a.at a.out.now (no_room a.at 4 _ c.before.has_room.ensures c.if1.false)
+    put_none (word_bytes a.w) a.at a.out.now (no_room a.at 4 _ c.before.has_room.ensures c.if1.false)
 
 pub put-word-spec : {M : Type 1} → statement M
 put-word-spec =

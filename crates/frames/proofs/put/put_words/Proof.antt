@@ -9,7 +9,7 @@ use lib.ListN.{length, take}
 use lib.Seq.{take_all}
 use Rattle.model.specs.Basics.{gather}
 use Rattle.frames.specs.Digits.{word_bytes}
-use Rattle.frames.proofs.Puts.{Stands, has_room, no_room, put-none, put_all, stands-none, stands-kept, length-words, words_more}
+use Rattle.frames.proofs.Puts.{Stands, has_room, no_room, put_none, put_all, stands_none, stands_kept, length_words, words_more}
 use Rattle.frames.proofs.put.put_words.Statement.{statement}
 use Rattle.frames.proofs.put.put_words.Tie as tie
 
@@ -32,12 +32,12 @@ has-room-requires c κs = search rules
 returns : tie.Need-returns invariant-loop decreases-loop
 returns c =
     let a = c.before.before.before.before.args in
-    put-none (gather word_bytes a.words.now) a.at a.out.now
-    (rw length-words (no_room a.at (4 * length a.words.now) _ c.before.has_room.ensures (not-true _ c.if1.true)))
+    put_none (gather word_bytes a.words.now) a.at a.out.now
+    (rw length_words (no_room a.at (4 * length a.words.now) _ c.before.has_room.ensures (not-true _ c.if1.true)))
 
 loop-holds : tie.Need-loop-init invariant-loop decreases-loop
 unfolding gather
-loop-holds c = (omega arith, stands-none _ _)
+loop-holds c = (omega arith, stands_none _ _)
 
 mul-put-word : tie.Need-overflow-mul-put-word invariant-loop decreases-loop
 mul-put-word c = search rules
@@ -67,14 +67,14 @@ loop-again c =
     )
 
 same_length : tie.Need-same-length invariant-loop decreases-loop
-same_length c = stands-kept c.before.loop.invariant.1
+same_length c = stands_kept c.before.loop.invariant.1
 
 returns-2 : tie.Need-returns-2 invariant-loop decreases-loop
 returns-2 c =
     let a = c.before.before.before.before.before.before.args in
     let all : take c.before.loop.i a.words.now ≡ a.words.now = take_all _ _ c.loop-test.false in
     put_all (gather word_bytes a.words.now) a.at a.out.now _ _
-    (rw length-words (fits c.before.before))
+    (rw length_words (fits c.before.before))
     (rw all at c.before.loop.invariant.1)
 
 pub put-words-spec : {M : Type 1} → statement M

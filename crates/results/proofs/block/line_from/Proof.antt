@@ -2,16 +2,16 @@
 use borrow.Author.Rules.{rules}
 use Rattle.model.specs.Network.{Network}
 use Rattle.frames.specs.Put.{line_at}
-use Rattle.rows.specs.Row.{network-in}
-use Rattle.rows.proofs.Holds.{network-size}
-use Rattle.results.specs.Block.{drawn-lines}
-use Rattle.results.proofs.Answered.{told-written}
-use Rattle.results.proofs.Blocks.{told_at, not-added, added}
+use Rattle.rows.specs.Row.{network_in}
+use Rattle.rows.proofs.Holds.{network_size}
+use Rattle.results.specs.Block.{drawn_lines}
+use Rattle.results.proofs.Answered.{told_written}
+use Rattle.results.proofs.Blocks.{told_at, not_added, added}
 use Rattle.results.proofs.block.line_from.Statement.{statement}
 use Rattle.results.proofs.block.line_from.Tie as tie
 
 abbrev network : tie.Start → Network
-network s = network-in s.args.header s.args.row.now
+network s = network_in s.args.header s.args.row.now
 
 sub-known-line : tie.Need-overflow-sub-known-line
 sub-known-line c = search rules
@@ -39,10 +39,10 @@ returns c =
     let s = c.before.before.before.before.before.before.before.before.before.before in
     let a = s.args in
     let n = network s in
-    let w = told-written n a.header.gates a.labels.now a.marks.now (network-size a.header a.row.now) s.requires.1 s.requires.2
+    let w = told_written n a.header.gates a.labels.now a.marks.now (network_size a.header a.row.now) s.requires.1 s.requires.2
     c.before.before.before.before.known-line.ensures
     in
-    not-added (line_at a.index (drawn-lines n a.labels.now a.marks.now)) a.out.now a.at s.requires.3
+    not_added (line_at a.index (drawn_lines n a.labels.now a.marks.now)) a.out.now a.at s.requires.3
     (rw told_at at w) c.enum_told.given.1
 
 same-length-2 : tie.Need-same-length-2
@@ -53,10 +53,10 @@ returns-2 c =
     let s = c.before.before.before.before.before.before.before.before.before.before.before in
     let a = s.args in
     let n = network s in
-    let w = told-written n a.header.gates a.labels.now a.marks.now (network-size a.header a.row.now) s.requires.1 s.requires.2
+    let w = told_written n a.header.gates a.labels.now a.marks.now (network_size a.header a.row.now) s.requires.1 s.requires.2
     c.before.before.before.before.before.known-line.ensures
     in
-    added (line_at a.index (drawn-lines n a.labels.now a.marks.now)) a.out.now a.at s.requires.3
+    added (line_at a.index (drawn_lines n a.labels.now a.marks.now)) a.out.now a.at s.requires.3
     (rw told_at at w) c.before.written.given.1
 
 pub line-from-spec : {M : Type 1} → statement M

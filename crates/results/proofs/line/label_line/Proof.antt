@@ -4,23 +4,23 @@ use Prim.Native.Nat.{ℕ}
 use mathlib.Core.List.{List}
 use native.Mathlib.Omega.{arith}
 use borrow.Author.Rules.{rules}
-use Rattle.frames.specs.Digits.{word_bytes, long-bytes}
-use Rattle.results.specs.Result.{label-bytes}
-use Rattle.results.proofs.ResultLines.{Laid, short-line, laid-line, three-parts}
+use Rattle.frames.specs.Digits.{word_bytes, long_bytes}
+use Rattle.results.specs.Result.{label_bytes}
+use Rattle.results.proofs.ResultLines.{Laid, short_line, laid_line, three_parts}
 use Rattle.results.proofs.line.label_line.Statement.{statement}
 use Rattle.results.proofs.line.label_line.Tie as tie
 
 abbrev bytes : tie.Start → List ℕ
-bytes s = label-bytes s.args.gate s.args.label
+bytes s = label_bytes s.args.gate s.args.label
 
 abbrev entered : tie.After-put-long → tie.Start
 entered c = c.before.before.before.before.before.before.before.before.before.before.before.before
 
 laid : (c : tie.After-put-long) → Laid (bytes (entered c)) (entered c).args.out.now c.put-long.result c.put-long.new.0
-unfolding label-bytes long-bytes word_bytes
+unfolding label_bytes long_bytes word_bytes
 laid c =
     let a = (entered c).args in
-    three-parts 0x12 (word_bytes a.gate) (long-bytes a.label)
+    three_parts 0x12 (word_bytes a.gate) (long_bytes a.label)
     (omega (arith, c.before.before.before.before.before.before.before.before.before.before.if1.false))
     c.before.before.before.before.before.before.before.before.put_byte.ensures
     c.before.before.before.before.put_word.ensures
@@ -30,8 +30,8 @@ no-room-requires : tie.Need-no-room-requires
 no-room-requires c κs = search rules
 
 returns : tie.Need-returns
-unfolding label-bytes long-bytes word_bytes
-returns c = let s = c.before.before.before in short-line (bytes s) s.args.out.now c.no_room.ensures (omega (arith, c.before.if1.true))
+unfolding label_bytes long_bytes word_bytes
+returns c = let s = c.before.before.before in short_line (bytes s) s.args.out.now c.no_room.ensures (omega (arith, c.before.if1.true))
 
 put-byte-requires : tie.Need-put-byte-requires
 put-byte-requires c κs = search rules
@@ -49,7 +49,7 @@ same_length : tie.Need-same-length
 same_length c = search rules
 
 returns-2 : tie.Need-returns-2
-returns-2 c = laid-line (laid c.before.before.before.before.before.before) c.before.before.feed.ensures
+returns-2 c = laid_line (laid c.before.before.before.before.before.before) c.before.before.feed.ensures
 
 pub label-line-spec : {M : Type 1} → statement M
 label-line-spec =

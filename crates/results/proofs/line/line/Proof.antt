@@ -1,7 +1,7 @@
 -- `results::line::line` meets its contract: a refusal of the row is handed on, and of a network the line is told.
 use borrow.Author.Rules.{rules}
-use Rattle.rows.proofs.Checked.{Known, check-network, check-else}
-use Rattle.results.proofs.Answered.{told-refused, told-told}
+use Rattle.rows.proofs.Checked.{Known, check_network, check_else}
+use Rattle.results.proofs.Answered.{told_refused, told_told}
 use Rattle.results.proofs.line.line.Statement.{statement}
 use Rattle.results.proofs.line.line.Tie as tie
 
@@ -9,7 +9,7 @@ use Rattle.results.proofs.line.line.Tie as tie
 known : (c : tie.After-read) → let s = c.before.before.before.before.before.before.before in Known s.args.header c.read.given.0.0 s.args.row.now
 known c =
     let s = c.before.before.before.before.before.before.before in
-    check-network s.args.header s.args.row.now
+    check_network s.args.header s.args.row.now
     (λ i. (c.before.before.before.before.before.before.shared-slice-known.given i).fits)
     c.before.before.check.ensures
     c.read.given.1
@@ -30,7 +30,7 @@ returns : tie.Need-returns
 returns c =
     let s = c.before.before.before.before.before.before.before.before in
     rw c.refusal.ensures
-    (told-refused _ _ _ _ (check-else s.args.header s.args.row.now _
+    (told_refused _ _ _ _ (check_else s.args.header s.args.row.now _
     c.before.before.before.check.ensures c.before.before.match.keys2))
 
 known-line-requires : tie.Need-known-line-requires
@@ -40,7 +40,7 @@ same_length : tie.Need-same-length
 same_length c = search rules
 
 returns-2 : tie.Need-returns-2
-returns-2 c = let call = c.before.before in told-told (known call.before.before.before).answered call.known-line.ensures
+returns-2 c = let call = c.before.before in told_told (known call.before.before.before).answered call.known-line.ensures
 
 pub line-spec : {M : Type 1} → statement M
 line-spec =

@@ -4,35 +4,35 @@ use Prim.Native.Nat.{ℕ}
 use mathlib.Core.List.{List}
 use native.Mathlib.Omega.{arith}
 use borrow.Author.Rules.{rules}
-use Rattle.units.specs.Units.{label-place}
-use Rattle.frames.specs.Digits.{word_bytes, long-bytes}
-use Rattle.results.specs.Result.{result-bytes}
-use Rattle.results.proofs.ResultLines.{Laid, short-line, laid-line, three-parts}
+use Rattle.units.specs.Units.{label_place}
+use Rattle.frames.specs.Digits.{word_bytes, long_bytes}
+use Rattle.results.specs.Result.{result_bytes}
+use Rattle.results.proofs.ResultLines.{Laid, short_line, laid_line, three_parts}
 use Rattle.results.proofs.line.result_line.Statement.{statement}
 use Rattle.results.proofs.line.result_line.Tie as tie
 
 abbrev bytes : tie.Start → List ℕ
-bytes s = result-bytes (label-place s.args.delay) s.args.clusters
+bytes s = result_bytes (label_place s.args.delay) s.args.clusters
 
 abbrev entered : tie.After-put-word → tie.Start
 entered c = c.before.before.before.before.before.before.before.before.before.before.before.before.before
 
 laid : (c : tie.After-put-word) → Laid (bytes (entered c)) (entered c).args.out.now c.put_word.result c.put_word.new.0
-unfolding result-bytes long-bytes word_bytes
+unfolding result_bytes long_bytes word_bytes
 laid c =
     let a = (entered c).args in
-    three-parts 0x11 (long-bytes (label-place a.delay)) (word_bytes a.clusters)
+    three_parts 0x11 (long_bytes (label_place a.delay)) (word_bytes a.clusters)
     (omega (arith, c.before.before.before.before.before.before.before.before.before.before.before.if1.false))
     c.before.before.before.before.before.before.before.before.before.put_byte.ensures
-    (rw c.before.before.before.before.before.label-place.ensures at c.before.before.before.before.put-long.ensures)
+    (rw c.before.before.before.before.before.label_place.ensures at c.before.before.before.before.put-long.ensures)
     c.put_word.ensures
 
 no-room-requires : tie.Need-no-room-requires
 no-room-requires c κs = search rules
 
 returns : tie.Need-returns
-unfolding result-bytes long-bytes word_bytes
-returns c = let s = c.before.before.before in short-line (bytes s) s.args.out.now c.no_room.ensures (omega (arith, c.before.if1.true))
+unfolding result_bytes long_bytes word_bytes
+returns c = let s = c.before.before.before in short_line (bytes s) s.args.out.now c.no_room.ensures (omega (arith, c.before.if1.true))
 
 put-byte-requires : tie.Need-put-byte-requires
 put-byte-requires c κs = search rules
@@ -53,7 +53,7 @@ same_length : tie.Need-same-length
 same_length c = search rules
 
 returns-2 : tie.Need-returns-2
-returns-2 c = laid-line (laid c.before.before.before.before.before.before) c.before.before.feed.ensures
+returns-2 c = laid_line (laid c.before.before.before.before.before.before) c.before.before.feed.ensures
 
 pub result-line-spec : {M : Type 1} → statement M
 result-line-spec =

@@ -16,7 +16,7 @@ cast-t8 : tie.Need-overflow-cast-t8
 cast-t8 c = search rules
 
 returns : tie.Need-returns
-returns c = rw (c.before.capacity-place.ensures, c.delay-place.ensures)
+returns c = rw (c.before.capacity_place.ensures, c.delay_place.ensures)
 
 pub settled-spec : {M : Type 1} → statement M
 settled-spec =
