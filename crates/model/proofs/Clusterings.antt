@@ -31,7 +31,7 @@ module _ (test : ℕ → Bool) (f : ℕ → List ℕ) (j : ℕ) where
 
   keep_of_one : {xs : List ℕ} → Distinct xs → Owned xs → j ∈ xs → keep test (gather f xs) ≡ f j
   unfolding gather
-  keep_of_one none own m = absurd (Memᴰ.not_nil m)
+  keep_of_one none own m = absurd (Memᴰ.not-nil m)
   keep_of_one (more {x = x} {xs = xs} h d) own m =
       let later : Owned xs = λ y z k. own y z (Memᴰ.tail k) in
       ⊎_elim

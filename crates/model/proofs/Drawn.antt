@@ -50,9 +50,9 @@ unfolding mark
 mark_keeps row [] y h = h
 mark_keeps row (x ∷ xs) y h = mark_keeps (set row x 1) xs y (set_keeps row x y h)
 
-mark_sets : (row : List ℕ) {xs : List ℕ} {y : ℕ} → y ∈ xs → y < length row → Marked (mark row xs) y
+mark_sets : {y : ℕ} (row : List ℕ) {xs : List ℕ} → y ∈ xs → y < length row → Marked (mark row xs) y
 unfolding mark
-mark_sets row {y = y} (Memᴰ.head {x = x} {xs = xs} e) h =
+mark_sets {y = y} row (Memᴰ.head {x = x} {xs = xs} e) h =
     mark_keeps (set row x 1) xs y (rw (← e, get_or-set_same row y 1 0 h) (omega arith))
 mark_sets row (Memᴰ.tail {x = x} m) h = mark_sets (set row x 1) m (omega (arith, length-set row x 1))
 

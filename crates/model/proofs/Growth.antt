@@ -38,7 +38,7 @@ grown n sum [] =
       rest = [];
       splits = refl;
       next = refl;
-      light = λ u m. absurd (Memᴰ.not_nil m);
+      light = λ u m. absurd (Memᴰ.not-nil m);
       fits = λ h. omega arith;
       overfills = λ s e. absurd (let z : ◌≡◌ {A = ℕ} 0 1 = cc in omega arith);
     }
@@ -61,7 +61,7 @@ grown n sum (u ∷ us) =
             rest = u ∷ us;
             splits = refl;
             next = refl;
-            light = λ x m. absurd (Memᴰ.not_nil m);
+            light = λ x m. absurd (Memᴰ.not-nil m);
             fits = λ k. omega arith;
             overfills = λ s e. let q : u ≡ s = cc in omega (arith, ap (weight n) q);
           })
@@ -189,7 +189,7 @@ module _ (n : Network) (l : List ℕ) (v : ℕ) where
       ⊎_elim (λ (m' : u ∈ joined n l v). absurd (h m')) (λ (o : u ∈ outside). go outside next o) (member_or_outside u m)
     where
       go : (rest : List ℕ) → stop n l v ≡ head? rest → u ∈ rest → (s : ℕ) × (stop n l v ≡ some s)
-      go [] e o = absurd (Memᴰ.not_nil o)
+      go [] e o = absurd (Memᴰ.not-nil o)
       go (x ∷ xs) e o = (x, e)
 
   -- the weights
@@ -371,6 +371,6 @@ module _ (n : Network) (l : List ℕ) (v : ℕ) where
 
   pub cluster_distinct : Distinct (cluster n l v)
   cluster_distinct =
-      ⊎_elim (λ (t : input n v ≡ true). rw (cluster_of_input t) (more Memᴰ.not_nil no_gate))
+      ⊎_elim (λ (t : input n v ≡ true). rw (cluster_of_input t) (more Memᴰ.not-nil no_gate))
       (λ (f : input n v ≡ false). rw (cluster_of_reader f) (more root_not_joined joined_distinct))
       (true_or_false (input n v))

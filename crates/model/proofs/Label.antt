@@ -119,7 +119,7 @@ module _ (n : Network) (v : ℕ) (l l' : List ℕ) (same : Agree n v l l') where
 
   pub ordered_agree : ordered n l v ≡ ordered n l' v
   unfolding ordered
-  ordered_agree = arrange_agree (position n v) [] (le_refl (position n v)) (λ x m. absurd (Memᴰ.not_nil m))
+  ordered_agree = arrange_agree (position n v) [] (le_refl (position n v)) (λ x m. absurd (Memᴰ.not-nil m))
 
   growth_agree : growth n l v ≡ growth n l' v
   unfolding growth

@@ -73,7 +73,7 @@ module _ (test : ℕ → Bool) where
 
   pub keep_in : (x : ℕ) (xs : List ℕ) → x ∈ keep test xs → (x ∈ xs) × (test x ≡ true)
   unfolding keep
-  keep_in x [] m = absurd (Memᴰ.not_nil m)
+  keep_in x [] m = absurd (Memᴰ.not-nil m)
   keep_in x (y ∷ ys) m =
       ⊎_elim
       (λ (h : test y ≡ true).
@@ -111,7 +111,7 @@ in_map f (Memᴰ.head e) = Memᴰ.head (ap f e)
 in_map f (Memᴰ.tail m) = Memᴰ.tail (in_map f m)
 
 pub map_in : (f : ℕ → ℕ) (y : ℕ) (xs : List ℕ) → y ∈ map f xs → (x : ℕ) × (x ∈ xs) × (y ≡ f x)
-map_in f y [] m = absurd (Memᴰ.not_nil m)
+map_in f y [] m = absurd (Memᴰ.not-nil m)
 map_in f y (x ∷ xs) m =
     ⊎_elim (λ (e : y ≡ f x). (x, Memᴰ.head refl, e))
     (λ (m' : y ∈ map f xs). let r = map_in f y xs m' in (r.0, Memᴰ.tail r.1, r.2))
@@ -124,7 +124,7 @@ in_gather f (Memᴰ.tail {x = z} m') m = Memᴰ.append_right (f z) (in_gather f 
 
 pub gather_in : (f : ℕ → List ℕ) (y : ℕ) (xs : List ℕ) → y ∈ gather f xs → (x : ℕ) × (x ∈ xs) × (y ∈ f x)
 unfolding gather
-gather_in f y [] m = absurd (Memᴰ.not_nil m)
+gather_in f y [] m = absurd (Memᴰ.not-nil m)
 gather_in f y (x ∷ xs) m =
     ⊎_elim (λ (m' : y ∈ f x). (x, Memᴰ.head refl, m'))
     (λ (m' : y ∈ gather f xs). let r = gather_in f y xs m' in (r.0, Memᴰ.tail r.1, r.2))
@@ -142,7 +142,7 @@ in_upto (suc k) {x} h =
 
 pub upto_in : (k x : ℕ) → x ∈ upto k → x < k
 unfolding upto
-upto_in zero x m = absurd (Memᴰ.not_nil m)
+upto_in zero x m = absurd (Memᴰ.not-nil m)
 upto_in (suc k) x m =
     ⊎_elim (λ (m' : x ∈ upto k). let h = upto_in k x m' in omega arith)
     (λ (m' : x ∈ (k ∷ [])). let e = Memᴰ.eq_of_singleton m' in omega arith)
@@ -202,7 +202,7 @@ pub distinct_upto : (k : ℕ) → Distinct (upto k)
 unfolding upto
 distinct_upto zero = none
 distinct_upto (suc k) =
-    distinct_append (distinct_upto k) (more Memᴰ.not_nil none)
+    distinct_append (distinct_upto k) (more Memᴰ.not-nil none)
     (λ x m m'. let h = upto_in k x m in let e = Memᴰ.eq_of_singleton m' in omega arith)
 
 pub distinct_keep : (test : ℕ → Bool) {xs : List ℕ} → Distinct xs → Distinct (keep test xs)

@@ -26,7 +26,7 @@ use Rattle.model.proofs.Label.{label_input, label_largest}
 -- A list of gates that weighs more than a cluster has a gate with no copy there: it is searched for.
 
 missing_from : (xs ys : List ℕ) → ((x : ℕ) → x ∈ xs → x ∈ ys) ⊎ ((x : ℕ) × (x ∈ xs) × (x ∈ ys → ⊥))
-missing_from [] ys = inl (λ x m. absurd (Memᴰ.not_nil m))
+missing_from [] ys = inl (λ x m. absurd (Memᴰ.not-nil m))
 missing_from (x ∷ xs) ys =
     ⊎_elim
     (λ (h : x ∈ ys).

@@ -1,7 +1,7 @@
 -- Laws of specs/Network.antt. Of positions and of the gate at a position the other pages use only what stands here.
 use Prim.Native.Nat.{ℕ, ◌≤◌, ◌<◌}
 use mathlib.Core.Path.{◌≡◌, refl, sym, ◌∙◌, ap}
-use mathlib.Core.Logic.{◌⊎◌, ⊎_elim}
+use mathlib.Core.Logic.{⊎_elim}
 use mathlib.Core.Bool.{true, false}
 use mathlib.Core.List.Memᴰ
 use mathlib.Core.List.{List, [], ◌∷◌}
@@ -9,7 +9,7 @@ use native.Mathlib.Decide.{dec_lt}
 use native.Mathlib.Omega.{arith}
 use lib.ListN.{get_or-eq_default}
 use Rattle.model.specs.Basics.{◌∈◌}
-use Rattle.model.specs.Network.{Gate, Network, size, gate, weight, delay, fanins, Input, empty, input, position, gate_at}
+use Rattle.model.specs.Network.{Gate, Network, size, gate, fanins, Input, empty, input, position, gate_at}
 use Rattle.model.proofs.Lists.{not_both, true_or_false}
 
 -- a number past the last gate reads nothing
@@ -23,7 +23,7 @@ pub reader_known : (n : Network) (v x : ℕ) → x ∈ fanins n v → v < size n
 reader_known n v x m =
     elim (dec_lt v (size n)) [
       | yes h ↦ h
-      | no h ↦ absurd (Memᴰ.not_nil (rw (past_the_last n v (omega arith)) at m))
+      | no h ↦ absurd (Memᴰ.not-nil (rw (past_the_last n v (omega arith)) at m))
     ]
 
 -- primary inputs
@@ -50,7 +50,7 @@ reads_something n v h = go (fanins n v) h
 
 pub reader_no_input : (n : Network) (v x : ℕ) → x ∈ fanins n v → input n v ≡ false
 reader_no_input n v x m =
-    ⊎_elim (λ t. absurd (Memᴰ.not_nil (rw (input_true n v t) at m))) (λ f. f) (true_or_false (input n v))
+    ⊎_elim (λ t. absurd (Memᴰ.not-nil (rw (input_true n v t) at m))) (λ f. f) (true_or_false (input n v))
 
 -- positions
 

@@ -16,7 +16,7 @@ use Rattle.model.proofs.Paths.{path_here, path_edge, path_join}
 -- an empty list holds nothing, and a list that holds nothing is empty
 empty_true : (x : ℕ) (xs : List ℕ) → empty xs ≡ true → x ∈ xs → ⊥
 unfolding empty
-empty_true x [] t m = Memᴰ.not_nil m
+empty_true x [] t m = Memᴰ.not-nil m
 empty_true x (y ∷ ys) t m = not_both {b = false} t refl
 
 true_empty : (xs : List ℕ) → ((x : ℕ) → x ∈ xs → ⊥) → empty xs ≡ true
@@ -55,7 +55,7 @@ module _ (n : Network) where
     where
       go : (ws : List ℕ) → read_by n u ≡ ws → (u ∈ outputs n) ⊎ ((w : ℕ) × (u ∈ fanins n w))
       go [] e =
-          inl (in_outputs u (record { known = h; unread = λ w r. Memᴰ.not_nil (rw e at (in_read_by u w r)) }))
+          inl (in_outputs u (record { known = h; unread = λ w r. Memᴰ.not-nil (rw e at (in_read_by u w r)) }))
       go (w ∷ ws) e = inr (w, read_by_in u w (rw e (Memᴰ.head refl)))
 
   module _ (wf : WellFormed n) where

@@ -85,10 +85,10 @@ smaller_first n v = v ∷ (grow n (weight n v) (arrange_first n v (position n v)
 
 only_one_reader : (y : ℕ) → 0 ∈ fanins chain y → y ≡ 1
 unfolding fanins gate chain
-only_one_reader zero m = absurd (Memᴰ.not_nil m)
+only_one_reader zero m = absurd (Memᴰ.not-nil m)
 only_one_reader (suc zero) m = refl
 only_one_reader (suc (suc zero)) m = let e = Memᴰ.eq_of_singleton m in absurd (omega arith)
-only_one_reader (suc (suc (suc y))) m = absurd (Memᴰ.not_nil m)
+only_one_reader (suc (suc (suc y))) m = absurd (Memᴰ.not-nil m)
 
 begins_inside : {n : Network} {inside : List ℕ} {v u : ℕ} → ReachesInside n inside v u → u ∈ inside
 begins_inside (there e m) = m

@@ -1,1 +1,2 @@
 // The mathematics of gate networks and their clusterings. No code: definitions in specs/, laws in proofs/.
+#![tactic(auto)]
