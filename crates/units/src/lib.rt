@@ -2,6 +2,8 @@
 // Ticks measure time: a delay, a label, a pull, the hop delay D. No function here takes one of each, so an area is
 // never added to or compared with a time. Gate numbers and fan-in counts are the two plain numbers with a ceiling.
 // Each of the four ceilings stands once, on the type that it bounds; the type's maker refuses what lies above it.
+#![tactic(auto)]
+
 ghost use Rattle.std.specs.Prelude.{◌≡◌};
 ghost use Rattle.units.specs.Units.{
   weighed,
@@ -53,11 +55,11 @@ fn held_32(x: u64) -> u32
 }
 
 // An area, in cells.
-#[derive(Drop)]
+#[derive(Clone, Copy)]
 pub struct Cells(pub u64);
 
 // What making a weight gives.
-#[derive(Drop)]
+#[derive(Clone, Copy)]
 pub enum Weighed {
     Made(Cells),
     Above,
@@ -108,11 +110,11 @@ impl Cells {
 }
 
 // A time, in ticks.
-#[derive(Drop)]
+#[derive(Clone, Copy)]
 pub struct Ticks(pub u64);
 
 // What making a delay gives.
-#[derive(Drop)]
+#[derive(Clone, Copy)]
 pub enum Delayed {
     Made(Ticks),
     Above,
@@ -170,11 +172,11 @@ impl Ticks {
 }
 
 // The number of a gate, counted from 0 in the order of the text.
-#[derive(Drop)]
+#[derive(Clone, Copy)]
 pub struct GateNumber(pub usize);
 
 // What making a gate number gives.
-#[derive(Drop)]
+#[derive(Clone, Copy)]
 pub enum Numbered {
     Made(GateNumber),
     Above,
@@ -197,11 +199,11 @@ impl GateNumber {
 }
 
 // How many fan-ins a gate has.
-#[derive(Drop)]
+#[derive(Clone, Copy)]
 pub struct FanInCount(pub usize);
 
 // What making a fan-in count gives.
-#[derive(Drop)]
+#[derive(Clone, Copy)]
 pub enum Counted {
     Made(FanInCount),
     Above,
