@@ -1,7 +1,7 @@
 -- After the header: a line that is no gate and no end is refused.
 use Prim.Native.Nat.{ℕ}
 use mathlib.Core.Path.{◌≡◌, refl, sym, ap₂, ◌∙◌}
-use mathlib.Core.Bool.{false, not, ◌||◌}
+use mathlib.Core.Bool.{not, ◌||◌}
 use mathlib.Core.List.{List}
 use mathlib.Core.Option.{none}
 use lib.Dec.{eqb}

@@ -1,7 +1,7 @@
 -- Laws of the column: the digits before the first byte that is none, and the place that this byte has.
-use Prim.Native.Nat.{ℕ, suc, ◌+◌, ◌≤◌, ◌<◌}
+use Prim.Native.Nat.{ℕ, suc, ◌≤◌, ◌<◌}
 use mathlib.Core.Path.{◌≡◌, refl, sym, ◌∙◌, ap}
-use mathlib.Core.Logic.{◌↔◌, ⊎_elim}
+use mathlib.Core.Logic.{⊎_elim}
 use mathlib.Core.Bool.{Bool, true, false, cond, ◌&&◌}
 use mathlib.Core.List.Memᴰ
 use mathlib.Core.List.{List, [], ◌∷◌, ◌++◌, Memᴰ}
@@ -81,7 +81,7 @@ first_found (b ∷ bs) e =
           listed = refl;
           placed = omega (arith, digit_none b bs h);
           wrong = h;
-          right = λ c m. absurd (Memᴰ.not_nil m);
+          right = λ c m. absurd (Memᴰ.not-nil m);
         }
 
 -- No other place is the first.

@@ -3,7 +3,7 @@
 use Prim.Native.Nat.{ℕ, suc, ◌≤◌, ◌<◌}
 use mathlib.Core.Path.{◌≡◌, refl, sym, ◌∙◌, ap}
 use mathlib.Core.Logic.{◌↔◌, ◌⊎◌, inl, inr, ⊎_elim}
-use mathlib.Core.Bool.{Bool, true, false, cond, not, ◌&&◌}
+use mathlib.Core.Bool.{Bool, true, false, cond, ◌&&◌}
 use mathlib.Core.List.{List, [], ◌∷◌, ◌++◌, map, Memᴰ}
 use mathlib.Core.Option.{Option, none, some}
 use native.Mathlib.Omega.{arith}
@@ -115,7 +115,7 @@ module _ (p : Place) (l : Line) where
         listed = refl;
         numbered = is;
         holds = t;
-        clear = λ s m. absurd (mathlib.Core.List.Memᴰ.not_nil m);
+        clear = λ s m. absurd (mathlib.Core.List.Memᴰ.not-nil m);
       }
 
   -- a row in front that does not hold changes nothing
@@ -158,7 +158,7 @@ module _ (p : Place) (l : Line) where
       ∙ ap {B = Option ℕ} some g.numbered
 
   first_none : (rs : List Row) → first_given rs p l ≡ none → FaultlessBy rs p l
-  first_none [] h = record { clear = λ r m. absurd (mathlib.Core.List.Memᴰ.not_nil m) }
+  first_none [] h = record { clear = λ r m. absurd (mathlib.Core.List.Memᴰ.not-nil m) }
   first_none (r ∷ rs) h = go (r.given p l) refl (first_none rs)
     where
       go : (t : Bool) → r.given p l ≡ t → (first_given rs p l ≡ none → FaultlessBy rs p l) → FaultlessBy (r ∷ rs) p l
@@ -245,7 +245,7 @@ module _ (k : ℕ) (p : Place) (l : Line) where
 -- A line of a text has digits, or is ended.
 ended_empty : (text : List ℕ) (l : Line) → Memᴰ l (lines text) → l.digits ≡ [] → l.ended ≡ true
 unfolding lines begin
-ended_empty [] l m e = absurd (mathlib.Core.List.Memᴰ.not_nil m)
+ended_empty [] l m e = absurd (mathlib.Core.List.Memᴰ.not-nil m)
 ended_empty (b ∷ bs) l m e = go (eqb b line_feed) (ended_empty bs l) m
   where
     front : (ls : List Line) → (Memᴰ l ls → l.digits ≡ [] → l.ended ≡ true) → Memᴰ l (begin b ls) → l.ended ≡ true

@@ -1,20 +1,18 @@
 -- The numbers of a line's form, each given exactly when its words hold, and the column told with them.
-use Prim.Native.Nat.{ℕ, suc, ◌%◌, ◌≤◌, ◌<◌}
+use Prim.Native.Nat.{ℕ, ◌%◌, ◌≤◌, ◌<◌}
 use mathlib.Core.Path.{◌≡◌, refl, sym, ◌∙◌}
-use mathlib.Core.Logic.{◌↔◌, ⊎_elim}
-use mathlib.Core.Bool.{Bool, true, false, cond, not, ◌&&◌}
+use mathlib.Core.Bool.{Bool, true, false, cond, not}
 use mathlib.Core.List.{List, [], ◌∷◌, ◌++◌, Memᴰ}
 use mathlib.Core.Option.{Option, none, some}
 use native.Mathlib.Decide.{ℕ_discrete}
 use native.Mathlib.Omega.{arith}
 use borrow.Author.Tests.{ltb-true, lt-ltb, eqb-true, eqb-false, eq-eqb, ne_eqb, not-true, not-false}
 use lib.ListN.{length}
-use lib.Dec.{ltb, eqb}
+use lib.Dec.{ltb}
 use Rattle.frames.specs.declared.Place.{Place}
 use Rattle.frames.specs.Text.{Line, digit, all_digits, even}
 use Rattle.frames.specs.Table.{none_there, column}
 use Rattle.frames.specs.Fault.{Given, FirstBad, DigitsOnly, FormExactly, Column, of_21, of_another, ColumnExactly}
-use Rattle.frames.specs.steps.Cut.{form_fault}
 use Rattle.frames.proofs.Tests.{never, both_true}
 use Rattle.frames.proofs.Bytes.{even_length}
 use Rattle.frames.proofs.Column.{first_found, first_only, first_wrong}
@@ -54,10 +52,10 @@ unfolding none_there
 some_there [] h = absurd (h refl)
 some_there (d ∷ ds) h = refl
 
-each_digit : (ds : List ℕ) → all_digits ds ≡ true → (b : ℕ) → Memᴰ b ds → digit b < 16
+each_digit : {b : ℕ} (ds : List ℕ) → all_digits ds ≡ true → Memᴰ b ds → digit b < 16
 unfolding all_digits
-each_digit _ t b (Memᴰ.head {x = d} {xs = ds} e) = rw e (ltb-true (digit d) 16 (both_true (ltb (digit d) 16) (all_digits ds) t).0)
-each_digit _ t b (Memᴰ.tail {x = d} {xs = ds} m) = each_digit ds (both_true (ltb (digit d) 16) (all_digits ds) t).1 b m
+each_digit _ t (Memᴰ.head {x = d} {xs = ds} e) = rw e (ltb-true (digit d) 16 (both_true (ltb (digit d) 16) (all_digits ds) t).0)
+each_digit _ t (Memᴰ.tail {x = d} {xs = ds} m) = each_digit ds (both_true (ltb (digit d) 16) (all_digits ds) t).1 m
 
 all_of_them : (ds : List ℕ) → ((b : ℕ) → Memᴰ b ds → digit b < 16) → all_digits ds ≡ true
 unfolding all_digits
@@ -134,12 +132,12 @@ module _ (p : Place) (l : Line) where
 
       by_22 : Told 22
           → DigitsOnly l × (length l.digits % 2 ≡ 1)
-      by_22 (is_22 a b c) = (each_digit l.digits (not-false _ b), odd_length l.digits (not-true _ c))
+      by_22 (is_22 a b c) = ((λ b'. each_digit {b = b'} l.digits (not-false _ b)), odd_length l.digits (not-true _ c))
 
       by_24 : Told 24
           → (l.digits ≡ [] → ⊥) × DigitsOnly l × (length l.digits % 2 ≡ 0) × (l.ended ≡ false)
       by_24 (is_24 a b c d) =
-          (not_none l.digits a, each_digit l.digits (not-false _ b), even_whole l.digits (not-false _ c), not-true _ d)
+          (not_none l.digits a, (λ b'. each_digit {b = b'} l.digits (not-false _ b)), even_whole l.digits (not-false _ c), not-true _ d)
 
 -- [N21] The computed column is exactly the one that the relation says.
 pub column_exactly : ColumnExactly

@@ -1,14 +1,12 @@
 -- What the table reads in a line, as the code reads it in the text.
 use Prim.Native.Nat.{ℕ, suc, ◌+◌, ◌*◌, ◌-◌, ◌/◌, ◌≤◌, ◌<◌}
-use mathlib.Core.Path.{◌≡◌, refl, sym, ap, ap₂, ◌∙◌}
-use mathlib.Core.Bool.{true, false}
+use mathlib.Core.Path.{◌≡◌, refl, ap, ap₂, ◌∙◌}
 use mathlib.Core.List.{List}
 use mathlib.Core.Option.{none}
 use native.Mathlib.Omega.{arith}
 use lib.ListN.{length, get_or, drop, take, length-drop}
 use lib.Seq.{slice, length-slice, get_or-drop, drop-drop}
 use Rattle.model.specs.Ceilings.{most_weight, most_delay, most_hop}
-use Rattle.frames.specs.declared.Place.TheVariants.{Opening}
 use Rattle.frames.specs.Text.{bytes, word_at, words}
 use Rattle.frames.specs.Table.{kind, frame_length, header_capacity, header_hop, gate_count, gate_fanins, gate_of, end_count}
 use Rattle.frames.specs.Frames.{byte_from, word_from, fan_in_from}

@@ -5,6 +5,8 @@
 // line's form, then by what stood before it 3 for its type, 4 for its length, 5 and 6 for a gate, 7 and 8 for the end.
 // `fan_in` reads one fan-in of a gate line. Numbers are read with digits that are none counting 16, so that no number
 // has to be refused before its line is.
+#![tactic(auto)]
+
 ghost use Rattle.std.specs.Prelude.{◌≡◌, ◌+◌, ◌^◌, ◌≤◌, ◌<◌, length, drop};
 ghost use Rattle.std.proofs.Math.Option.{none};
 ghost use Rattle.std.proofs.Math.Seq.{slice};
@@ -21,7 +23,7 @@ use units::{Cells, Counted, Delayed, FanInCount, GateNumber, Numbered, Ticks, We
 pub mod put;
 
 // What stood before a line: nothing; the header and so many gates; the end frame.
-#[derive(Drop)]
+#[derive(Clone, Copy)]
 pub enum Place {
     Opening,
     AfterGates(usize),
@@ -29,7 +31,7 @@ pub enum Place {
 }
 
 // A refusal [O1]: which it is, and where: at what line, and at what column of it.
-#[derive(Drop)]
+#[derive(Clone, Copy)]
 pub struct Refusal {
     pub number: u8,
     pub line: usize,
@@ -37,7 +39,7 @@ pub struct Refusal {
 }
 
 // What reading a line gives: a frame and where the next line begins, a refusal, or that the text ends here.
-#[derive(Drop)]
+#[derive(Clone, Copy)]
 pub enum LineRead {
     Header {
         capacity: Cells,
@@ -58,7 +60,7 @@ pub enum LineRead {
 }
 
 // What writing a line answers: its length, line feed included, or a refusal.
-#[derive(Drop)]
+#[derive(Clone, Copy)]
 pub enum Written {
     Line(usize),
     Refused(Refusal),
@@ -241,7 +243,7 @@ fn first_bad(text: &[u8], at: usize, end: usize) -> usize
 }
 
 // What is found of the form of a line: nothing, or its refusal.
-#[derive(Drop)]
+#[derive(Clone, Copy)]
 enum Form {
     Right,
     Wrong(Refusal),
