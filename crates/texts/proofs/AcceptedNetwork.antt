@@ -32,7 +32,7 @@ first_rising least bound x xs e =
     (leb-true least x b.0, ltb-true x bound b.1, a.1)
 
 pub rising_below : (least bound : ℕ) (xs : List ℕ) → rising_from least bound xs ≡ true → (x : ℕ) → x ∈ xs → x < bound
-rising_below least bound [] e x m = absurd (Memᴰ.not_nil m)
+rising_below least bound [] e x m = absurd (Memᴰ.not-nil m)
 rising_below least bound (y ∷ ys) e x m =
     let f = first_rising least bound y ys e in
     ⊎_elim (λ (d : x ≡ y). omega arith) (λ (m' : x ∈ ys). rising_below (suc y) bound ys f.2 x m') (Memᴰ.cases_cons m)

@@ -95,7 +95,7 @@ begin_within b most (k ∷ ls) l all m =
 
 pub line_within : (text : List ℕ) (l : Line) → Memᴰ l (lines text) → length l.digits ≤ length text
 unfolding lines
-line_within [] l m = absurd (Memᴰ.not_nil m)
+line_within [] l m = absurd (Memᴰ.not-nil m)
 line_within (b ∷ bs) l m = go (eqb b line_feed) (line_within bs) m
   where
     go : (t : Bool) → ((k : Line) → Memᴰ k (lines bs) → length k.digits ≤ length bs)
