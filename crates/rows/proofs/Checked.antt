@@ -2,10 +2,8 @@
 use Prim.Native.Nat.{ℕ}
 use mathlib.Core.Path.{◌≡◌, refl, sym, ◌∙◌, ap}
 use mathlib.Core.Bool.{cond}
-use mathlib.Core.List.{List, [], ◌∷◌}
+use mathlib.Core.List.{List}
 use native.Mathlib.Omega.{arith}
-use types.Run.{OneOf, miss}
-use denote.Enum.Declared.{tag_of}
 use Rattle.model.specs.Network.{Network}
 use Rattle.units.specs.Units.{cells, ticks, capacity_place, delay_place}
 use Rattle.frames.specs.declared.Refusal.{Refusal}
@@ -16,7 +14,6 @@ use Rattle.texts.specs.Spelling.{join}
 use Rattle.texts.proofs.AcceptedNetwork.{accepted_well_formed, accepted_within_ceilings, accepted_not_heavy}
 use Rattle.rows.specs.declared.Header.{Header}
 use Rattle.rows.specs.declared.Read.{Read}
-use Rattle.rows.specs.declared.Read.TheVariants as Read
 use Rattle.rows.specs.declared.Fault.{Fault}
 use Rattle.rows.specs.declared.Fault.TheVariants.{None, Found}
 use Rattle.rows.specs.Row.{too_short, network_in, header_of}
@@ -24,7 +21,6 @@ use Rattle.rows.specs.Spelling.{row_lines, spell, row_answer}
 use Rattle.rows.specs.Read.{shown, checked, refusal_in}
 use Rattle.rows.specs.steps.RowCheck.{settled, row_fault, unless_fault, row_check}
 use Rattle.rows.specs.steps.Holds.{Holds}
-use Rattle.rows.specs.contracts.Read.{the_type}
 use Rattle.rows.proofs.Holds.{InRange, network_size}
 use Rattle.rows.proofs.RowCheck.{row_answer_check, Answered, row_answered}
 
@@ -123,9 +119,9 @@ unfolding shown
 shown_refused (refused f) e = cc
 shown_refused (network n) e = never cc
 
--- the other way out of a `let .. else` on the answer; the tags of the variants: Network 0, Refused 1
-pub check_else : (h : Header) (row : List ℕ) (r : Read) → r ≡ checked h row → OneOf (1 ∷ []) (tag_of the_type r)
+-- the other way out of a `let .. else` on the answer
+pub check_else : (h : Header) (row : List ℕ) (r : Read) → r ≡ checked h row → ((k : Header) → r ≡ Read.Network k → ⊥)
     → row_answer h row ≡ refused (refusal_in r)
 unfolding checked
-check_else h row (Read.Network k) p other = absurd (miss (1 ∷ []) 0 tt other)
+check_else h row (Read.Network k) p other = absurd (other k refl)
 check_else h row (Read.Refused f) p other = shown_refused (row_answer h row) p

@@ -6,7 +6,6 @@ use Rattle.units.specs.Units.{cells, ticks}
 use Rattle.frames.specs.Refusal.{at_line, no_room}
 use Rattle.rows.specs.declared.Header.{Header}
 use Rattle.rows.specs.declared.Read.{Read}
-use Rattle.rows.specs.declared.Read.TheVariants as Read
 use Rattle.rows.specs.Read.{checked}
 
 -- the row of network A; the count of gate 2 and the fan-in of gate 3 are left open, and unused places hold 7

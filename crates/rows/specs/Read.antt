@@ -6,7 +6,6 @@ use Rattle.frames.specs.Refusal.{no_room}
 use Rattle.texts.specs.Reading.{Reading, refused, network, reading}
 use Rattle.rows.specs.declared.Header.{Header}
 use Rattle.rows.specs.declared.Read.{Read}
-use Rattle.rows.specs.declared.Read.TheVariants as Read
 use Rattle.rows.specs.Row.{too_short, header_of, fill}
 use Rattle.rows.specs.Spelling.{row_answer}
 

@@ -1,5 +1,7 @@
 // A network in its row: a header by value, and a block of eleven 16-bit places for each gate. The accessors know where in a
 // block each number stands; nothing above them does. `check` says what a header and a row handed over answer.
+#![tactic(auto)]
+
 ghost use Rattle.std.specs.Prelude.{◌≡◌, ◌&&◌, ◌+◌, ◌^◌, ◌<◌, get_or, leb, ltb};
 ghost use Rattle.model.specs.Network.{empty};
 ghost use Rattle.frames.specs.Refusal.{at_line};
@@ -25,7 +27,7 @@ use units::{Cells, Counted, FanInCount, GateNumber, Numbered, Ticks};
 
 // What is said once of a network: the capacity M, the hop delay D and the number of gates. M and D above their ceilings count
 // as the ceilings.
-#[derive(Drop)]
+#[derive(Clone, Copy)]
 pub struct Header {
     pub capacity: Cells,
     pub hop: Ticks,
@@ -33,7 +35,7 @@ pub struct Header {
 }
 
 // What a text, or a header and a row handed over, answer: the header of the network that stands in the row, or a refusal.
-#[derive(Drop)]
+#[derive(Clone, Copy)]
 pub enum Read {
     Network(Header),
     Refused(Refusal),
@@ -171,7 +173,7 @@ const FAN_IN: usize = 4;
 const FIRST_GATE: usize = 2;
 
 // What a check finds: nothing, or a refusal.
-#[derive(Drop)]
+#[derive(Clone, Copy)]
 enum Fault {
     None,
     Found(Refusal),
