@@ -10,8 +10,6 @@ use borrow.Author.Tests.{le-leb, lt-ltb, ltb-false}
 use lib.Dec.{ltb}
 use lib.ListN.{length, get_or, take, drop, set, replicate, take-append-drop, length-append, length-drop, length-set, length-replicate, replicate-append-replicate}
 use lib.Seq.{sets, set_at, append_snoc, length-take-le, drop-drop}
-use types.Run.{OneOf}
-use denote.Enum.Declared.{tag_of}
 use Rattle.model.specs.Basics.{◌∈◌}
 use Rattle.model.specs.Ceilings.{most_gates, most_fanins}
 use Rattle.model.specs.Network.{Gate, Network, size}
@@ -23,7 +21,6 @@ use Rattle.frames.specs.Frames.{fan_in_from, line_read}
 use Rattle.frames.specs.Text.{lines}
 use Rattle.frames.specs.declared.Place.TheVariants.{Opening, AfterGates}
 use Rattle.frames.specs.declared.LineRead.{LineRead}
-use Rattle.frames.specs.contracts.LineRead.{the_type}
 use Rattle.texts.specs.Reading.{network, nothing_read, at_the_end, walk, reading}
 use Rattle.texts.proofs.Accepted.{walk_gates}
 use Rattle.texts.proofs.AcceptedNetwork.{rising_below}
@@ -31,7 +28,7 @@ use Rattle.texts.proofs.Table.{walk_whole, reading_exactly}
 use Rattle.rows.specs.Row.{places, too_short, has_block, block_of, blocks, fill, gate_put, fanin_put}
 use Rattle.rows.specs.Read.{filled}
 use Rattle.reading.specs.steps.Passes.{header_only, with_fan_ins, FitsInto}
-use Rattle.reading.proofs.LinesRead.{with_one, HeaderRead, GateRead, no_header, no_more_gates, no_network}
+use Rattle.reading.proofs.LinesRead.{NoHeader, NoGate, with_one, HeaderRead, GateRead, no_header, no_more_gates, no_network}
 
 -- the fan-ins of one gate, put one by one
 
@@ -243,14 +240,14 @@ module _
 
 -- A text that fits into the row opens with a header.
 pub opens : (text row : List ℕ) → FitsInto text row
-    → (r : LineRead) → r ≡ line_read text 0 Opening 1 → OneOf (1 ∷ 2 ∷ 3 ∷ 4 ∷ []) (tag_of the_type r) → ⊥
+    → (r : LineRead) → r ≡ line_read text 0 Opening 1 → NoHeader r → ⊥
 opens text row f r answers other =
     no_network r 1 f.whole (sym (no_header text 0 1 nothing_read r answers other) ∙ walk_read text f.whole f.reads)
 
 -- Where no gate is read, the walk is at its end.
 module _
     (text before row : List ℕ) (at gates : ℕ) (f : Filling text before row at gates)
-    (r : LineRead) (answers : r ≡ line_read text at (AfterGates gates) (gates + 2)) (other : OneOf (0 ∷ 2 ∷ 3 ∷ 4 ∷ []) (tag_of the_type r))
+    (r : LineRead) (answers : r ≡ line_read text at (AfterGates gates) (gates + 2)) (other : NoGate r)
   where
     all_read : f.so_far ≡ f.fits.whole
     all_read = no_more_gates text at gates r answers other f.so_far f.fits.whole f.on

@@ -13,8 +13,6 @@ use lib.ListN.{length, get_or, drop, drop_of_length-le}
 use lib.Seq.{length-slice}
 use lib.Dec.{eqb}
 use borrow.Author.Tests.{not-false, eqb-true, ne_eqb}
-use types.Run.{OneOf, miss}
-use denote.Enum.Declared.{tag_of}
 use Rattle.model.specs.Network.{Gate, Network}
 use Rattle.model.proofs.Lists.{true_or_false}
 use Rattle.units.specs.Units.{cells, ticks}
@@ -27,10 +25,10 @@ use Rattle.frames.specs.declared.LineRead.{LineRead}
 use Rattle.frames.specs.declared.LineRead.TheVariants as read
 use Rattle.frames.specs.Text.{Line, lines}
 use Rattle.frames.specs.Table.{kind, fault, column, next_place, misplaced, header_capacity, header_hop, gate_of, gate_count}
+use Rattle.frames.specs.declared.Refusal.{Refusal}
 use Rattle.frames.specs.Refusal.{at_column, at_line}
 use Rattle.frames.specs.Frames.{frame, told, judged, line_read, fan_in_from}
 use Rattle.frames.specs.steps.Cut.{line_from, line_length}
-use Rattle.frames.specs.contracts.LineRead.{the_type}
 use Rattle.frames.proofs.Rows.{faultless}
 use Rattle.frames.proofs.Lines.{lines_from, end_most, read_first, read_past}
 use Rattle.frames.proofs.FanIns.{fan_ins_read}
@@ -225,9 +223,16 @@ module _ (text : List ℕ) (at v : ℕ) (r : LineRead) (answers : r ≡ line_rea
           rw (h, ← n', line) (over_end v (v + 2) n l (lines (drop next' text)) g t.other_type))
           (later_frame v l next' g)
 
+-- No header was read; no gate was read.
+abbrev pub NoHeader : LineRead → Type 0
+NoHeader r = (capacity : Cells) (hop : Ticks) (next : ℕ) → r ≡ read.Header capacity hop next → ⊥
+
+abbrev pub NoGate : LineRead → Type 0
+NoGate r = (weight : Cells) (delay : Ticks) (count : FanInCount) (next : ℕ) → r ≡ read.Gate weight delay count next → ⊥
+
 -- Where a walk that ends in a network reads no gate, it is at its end.
 pub no_more_gates : (text : List ℕ) (at v : ℕ) (r : LineRead) → r ≡ line_read text at (AfterGates v) (v + 2)
-    → OneOf (0 ∷ 2 ∷ 3 ∷ 4 ∷ []) (tag_of the_type r) → (n m : Network)
+    → NoGate r → (n m : Network)
     → walk (AfterGates v) (v + 2) n (lines (drop at text)) ≡ network m → n ≡ m
 no_more_gates text at v r answers other n m e = go (viewed_there text at v r answers)
   where
@@ -236,7 +241,7 @@ no_more_gates text at v r answers other n m e = go (viewed_there text at v r ans
     go (faulty l ls k h g f) = let z = sym (walk_faulty (AfterGates v) (v + 2) n l ls k g) ∙ rw h at e in never cc
     go (clean l next inside ahead h g f) =
         ⊎_elim
-        (λ (t : GateFrame l next). absurd (miss (0 ∷ 2 ∷ 3 ∷ 4 ∷ []) 1 tt (rw (f ∙ t.framed) at other)))
+        (λ (t : GateFrame l next). absurd (other _ _ _ _ (f ∙ t.framed)))
         (λ (t : EndFrame l next).
         (walk_closed (v + 2 + 1) n m (lines (drop next text))
         (sym (over_end v (v + 2) n l (lines (drop next text)) g t.other_type) ∙ rw h at e)).1)
@@ -252,33 +257,32 @@ stops n (nothing h f) ended frames = rw (h, f) (ended f)
 stops {p = p} {line = line} n (faulty l ls k h g f) ended frames = rw (h, f) (walk_faulty p line n l ls k g)
 stops n (clean l next inside ahead h g f) ended frames = absurd (frames l next g f)
 
--- the tags of the variants: Header 0, Gate 1, End 2, Refused 3, Nothing 4
 module _ (text : List ℕ) (at line : ℕ) (n : Network) (r : LineRead) where
   viewed : (p : Place) → r ≡ line_read text at p line → View text at p line r
   viewed p e = rw e (view text at p line)
 
-  pub no_header : r ≡ line_read text at Opening line → OneOf (1 ∷ 2 ∷ 3 ∷ 4 ∷ []) (tag_of the_type r)
+  pub no_header : r ≡ line_read text at Opening line → NoHeader r
       → walk Opening line n (lines (drop at text)) ≡ refusal_of r line
   unfolding at_the_end
   no_header e h =
       stops n (viewed Opening e) (λ f. refl)
-      (λ l next g f. miss (1 ∷ 2 ∷ 3 ∷ 4 ∷ []) 0 tt (rw (f ∙ opening_frame l next g) at h))
+      (λ l next g f. h _ _ _ (f ∙ opening_frame l next g))
 
-  pub no_gate_or_end : (v : ℕ) → r ≡ line_read text at (AfterGates v) line → OneOf (0 ∷ 2 ∷ 3 ∷ 4 ∷ []) (tag_of the_type r)
-      → OneOf (0 ∷ 1 ∷ 3 ∷ 4 ∷ []) (tag_of the_type r) → walk (AfterGates v) line n (lines (drop at text)) ≡ refusal_of r line
+  pub no_gate_or_end : (v : ℕ) → r ≡ line_read text at (AfterGates v) line → NoGate r
+      → ((next : ℕ) → r ≡ read.End next → ⊥) → walk (AfterGates v) line n (lines (drop at text)) ≡ refusal_of r line
   unfolding at_the_end
   no_gate_or_end v e h k =
       stops n (viewed (AfterGates v) e) (λ f. refl)
       (λ l next g f.
       ⊎_elim
-      (λ (t : GateFrame l next). miss (0 ∷ 2 ∷ 3 ∷ 4 ∷ []) 1 tt (rw (f ∙ t.framed) at h))
-      (λ (t : EndFrame l next). miss (0 ∷ 1 ∷ 3 ∷ 4 ∷ []) 2 tt (rw (f ∙ t.framed) at k))
+      (λ (t : GateFrame l next). h _ _ _ _ (f ∙ t.framed))
+      (λ (t : EndFrame l next). k _ (f ∙ t.framed))
       (later_frame v l next g))
 
-  pub no_end : r ≡ line_read text at Closed line → OneOf (0 ∷ 1 ∷ 2 ∷ 3 ∷ []) (tag_of the_type r)
+  pub no_end : r ≡ line_read text at Closed line → (r ≡ read.Nothing → ⊥)
       → walk Closed line n (lines (drop at text)) ≡ refusal_of r line
   no_end e h =
-      stops n (viewed Closed e) (λ f. absurd (miss (0 ∷ 1 ∷ 2 ∷ 3 ∷ []) 4 tt (rw f at h)))
+      stops n (viewed Closed e) (λ f. absurd (h f))
       (λ l next g f. closed_line l g)
 
   -- nothing behind the end frame
@@ -308,10 +312,10 @@ weigh_refusal (read.Refused f) line = refl
 weigh_refusal read.Nothing line = refl
 
 -- any variant but `Refused`
-pub not_refused : (r : LineRead) (missing : ℕ) → OneOf (0 ∷ 1 ∷ 2 ∷ 4 ∷ []) (tag_of the_type r) → refusal_of r missing ≡ refused (at_line 3 missing)
+pub not_refused : (r : LineRead) (missing : ℕ) → ((f : Refusal) → r ≡ read.Refused f → ⊥) → refusal_of r missing ≡ refused (at_line 3 missing)
 unfolding refusal_of
 not_refused (read.Header m d next) missing h = refl
 not_refused (read.Gate w d k next) missing h = refl
 not_refused (read.End next) missing h = refl
-not_refused (read.Refused f) missing h = absurd (miss (0 ∷ 1 ∷ 2 ∷ 4 ∷ []) 3 tt h)
+not_refused (read.Refused f) missing h = absurd (h f refl)
 not_refused read.Nothing missing h = refl

@@ -2,32 +2,27 @@
 use Prim.Native.Nat.{ℕ}
 use mathlib.Core.Path.{◌≡◌, refl, sym, ap, ◌∙◌}
 use mathlib.Core.Bool.{Bool, true, false}
-use mathlib.Core.List.{List, [], ◌∷◌}
-use types.Run.{OneOf, miss}
-use denote.Enum.Declared.{tag_of}
+use mathlib.Core.List.{List}
 use Rattle.model.specs.Network.{Network, size}
 use Rattle.frames.specs.declared.Refusal.{Refusal}
 use Rattle.frames.specs.Refusal.{no_room}
 use Rattle.texts.specs.Reading.{Reading, refused, network, reading}
 use Rattle.frames.proofs.Tests.{never}
 use Rattle.rows.specs.declared.Read.{Read}
-use Rattle.rows.specs.declared.Read.TheVariants as Read
 use Rattle.rows.specs.declared.Header.{Header}
 use Rattle.rows.specs.Row.{too_short}
 use Rattle.rows.specs.Read.{shown, in_room, answer, filled}
-use Rattle.rows.specs.contracts.Read.{the_type}
 use Rattle.reading.specs.steps.Passes.{FitsInto}
 use Rattle.reading.specs.ReadInto.{ReadInto}
 
 module _ (text row : List ℕ) (r : Read) (seen : r ≡ shown (reading text)) where
-  -- the tags of the variants: Network 0, Refused 1
-  pub refused_into : OneOf (1 ∷ []) (tag_of the_type r) → ReadInto text row row r
+  pub refused_into : ((header : Header) → r ≡ Read.Network header → ⊥) → ReadInto text row row r
   unfolding shown answer in_room filled
   refused_into other = go (reading text) refl
     where
       go : (w : Reading) → reading text ≡ w → ReadInto text row row r
       go (refused f) e = record { result = rw e (seen ∙ ap shown e); row = rw e }
-      go (network n) e = absurd (miss (1 ∷ []) 0 tt (rw (seen ∙ ap shown e) at other))
+      go (network n) e = absurd (other _ (seen ∙ ap shown e))
 
   module _ (header : Header) (is : r ≡ Read.Network header) (short : Bool) (test : short ≡ too_short header.gates row) where
     -- the network that was read

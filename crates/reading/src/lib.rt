@@ -1,5 +1,7 @@
 // A network's text read into a lent row. `look` goes over the text once and writes nothing; where it finds a network for
 // which the row has room, `fill_row` goes over the gate lines once more and puts each gate into its block.
+#![tactic(auto)]
+
 ghost use Rattle.std.specs.Prelude.{◌≡◌, ℕ, ◌+◌, ◌≤◌, ◌<◌, drop};
 ghost use Rattle.model.specs.Ceilings.{most_gates};
 ghost use Rattle.model.specs.Network.{Network};
@@ -40,7 +42,7 @@ fn heavy_line(heavy: usize, weight: Cells, capacity: Cells, line: usize) -> usiz
 
 // What is known of a network whose header and first gates were read: the header with the gates so far, and the line of the
 // first gate heavier than M, 0 where there is none.
-#[derive(Drop)]
+#[derive(Clone, Copy)]
 struct Seen {
     header: Header,
     heavy: usize,
