@@ -1,5 +1,7 @@
 // The lines of a network that stands in its row: the header, a line a gate, the end. Each is written into a lent row from its
 // start. A row too short for the line answers 10 and is left as it was.
+#![tactic(auto)]
+
 ghost use Rattle.std.specs.Prelude.{◌<◌};
 ghost use Rattle.frames.specs.Digits.{spell_line};
 ghost use Rattle.frames.specs.Put.{LineWritten, line_at};
