@@ -26,9 +26,7 @@ use Rattle.rows.proofs.Holds.{network_size}
 use Rattle.rows.proofs.Checked.{Known}
 use Rattle.labelling.specs.Promises.{written, label_answer, label_row, LabelledInto, either_short, cluster_answer, cluster_row, ClusteredInto}
 use Rattle.labelling.specs.declared.Labelled.{Labelled}
-use Rattle.labelling.specs.declared.Labelled.TheVariants as Labelled
 use Rattle.labelling.specs.declared.Clustered.{Clustered}
-use Rattle.labelling.specs.declared.Clustered.TheVariants as Clustered
 
 -- a root that is no gate has no members
 no_members : (n : Network) (labels : List ℕ) (r : ℕ) → size n ≤ r → members_of n labels r ≡ []

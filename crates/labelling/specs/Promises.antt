@@ -8,9 +8,7 @@ use Rattle.texts.specs.Reading.{Reading, refused, network}
 use Rattle.rows.specs.declared.Header.{Header}
 use Rattle.rows.specs.Spelling.{row_answer}
 use Rattle.labelling.specs.declared.Labelled.{Labelled}
-use Rattle.labelling.specs.declared.Labelled.TheVariants as Labelled
 use Rattle.labelling.specs.declared.Clustered.{Clustered}
-use Rattle.labelling.specs.declared.Clustered.TheVariants as Clustered
 
 -- the row with the list at its front, the rest kept
 abbrev pub written : List ℕ → List ℕ → List ℕ

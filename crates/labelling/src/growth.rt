@@ -15,7 +15,7 @@ use rows::Header;
 use units::Ticks;
 
 // The gate that stopped growth, if one did.
-#[derive(Drop)]
+#[derive(Clone, Copy)]
 pub(crate) enum Stop {
     At(usize),
     Nothing,
@@ -23,7 +23,7 @@ pub(crate) enum Stop {
 
 // What growth comes to: how many gates of the ordered row joined, what stopped it, and the largest pull of an input among those
 // that joined, 0 if there is none [L5].
-#[derive(Drop)]
+#[derive(Clone, Copy)]
 pub(crate) struct Grown {
     pub(crate) joined: usize,
     pub(crate) stop: Stop,
@@ -46,10 +46,10 @@ fn or_input(row: &[u16], pulls: &Row, time: Ticks, u: usize) -> Ticks
 fn walk(header: Header, row: &[u16], v: usize, pulls: &Row, ordered: &Order, count: usize) -> Grown
     requires holds { Holds header row.now × (v < header.gates) }
     requires whole { Whole ordered.now × (count ≤ v) × Below v (take count ordered.now) }
-    ensures joined_le_count { (result.joined ≤ count) × (stop_of result.stop ≡ head? (drop result.joined (take count ordered.now))) }
-    ensures ordered_value { grow (network_in header row.now) (weight (network_in header row.now) v) (take count ordered.now)
+    ensures stop { (result.joined ≤ count) × (stop_of result.stop ≡ head? (drop result.joined (take count ordered.now))) }
+    ensures grown { grow (network_in header row.now) (weight (network_in header row.now) v) (take count ordered.now)
         ≡ record { joined = take result.joined (take count ordered.now); stop = stop_of result.stop } }
-    ensures inputs_value { result.inputs.0 ≡ input_pulls row.now pulls.now (take result.joined (take count ordered.now)) }
+    ensures inputs { result.inputs.0 ≡ input_pulls row.now pulls.now (take result.joined (take count ordered.now)) }
 {
     let mut sum = rows::weight(row, v);
     let mut inputs = Ticks(0);

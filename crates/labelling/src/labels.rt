@@ -45,8 +45,8 @@ fn label_one(
 ) -> Ticks
     requires holds { Holds header row.now × (v < header.gates) × (v ≤ length labels.now) }
     requires whole { Whole onward.old × Whole pulls.old × Whole ordered.old }
-    ensures whole_2 { Whole onward.new × Whole pulls.new × Whole ordered.new }
-    ensures result_value { result.0 ≡ label_from (network_in header row.now) labels.now v }
+    ensures kept { Whole onward.new × Whole pulls.new × Whole ordered.new }
+    ensures label { result.0 ≡ label_from (network_in header row.now) labels.now v }
 {
     if rows::is_input(row, v) {
         return rows::delay(row, v);
