@@ -1,5 +1,7 @@
 // Which clusters are drawn: those of the primary outputs, and with each cluster those of its inputs. A drawn cluster's root
 // has a mark in a row with a place for each gate, 1 for drawn and 0 for not.
+#![tactic(auto)]
+
 ghost use Rattle.std.specs.Prelude.{◌≡◌, cond, ◌≤◌, ◌<◌, eqb, length, get_or, set, replicate};
 ghost use Rattle.model.specs.Basics.{upto};
 ghost use Rattle.model.specs.Ceilings.{most_gates};
@@ -17,7 +19,7 @@ use rows::{Header, Read};
 use units::{GateNumber, Ticks};
 
 // What selecting answers: how many clusters are drawn and the output delay, the marks standing in the row; or a refusal.
-#[derive(Drop)]
+#[derive(Clone, Copy)]
 pub enum Drawing {
     Drawn { clusters: usize, delay: Ticks },
     Refused(Refusal),
