@@ -14,7 +14,7 @@ use frames::{Refusal, Written};
 use rows::{Header, Read};
 
 // What telling a run of lines answers: how many lines stand in the row and their bytes; or a refusal.
-#[derive(Drop)]
+#[derive(Clone, Copy)]
 pub enum Block {
     Lines { count: usize, length: usize },
     Refused(Refusal),

@@ -1,7 +1,7 @@
 // The result, a line at a time: 11, a 12 for each gate, a 13 for each drawn cluster, 1F; or the one 1E of a refusal. Each
 // line is written into a lent row from its start. A row too short for the line answers 10 and is left as it was.
 ghost use Rattle.std.specs.Prelude.{◌≤◌, ◌<◌, ◌^◌, length};
-ghost use Rattle.model.specs.Drawing.{members as members-in};
+ghost use Rattle.model.specs.Drawing.{members as members_in};
 ghost use Rattle.units.specs.Units.{label_place};
 ghost use Rattle.frames.specs.Digits.{spell_line};
 ghost use Rattle.frames.specs.Put.{LineWritten, line_at};
@@ -92,7 +92,7 @@ pub fn refusal_line(refusal: Refusal, out: &mut [u8]) -> Written
 fn member_line(header: Header, row: &[u16], labels: &[u32], root: usize, out: &mut [u8]) -> Written
     requires { Holds header row.now × (root < header.gates) × (header.gates ≤ length labels.now) }
     ensures { LineWritten
-        (spell_line (cluster_bytes root (members-in (network_in header row.now) labels.now root)))
+        (spell_line (cluster_bytes root (members_in (network_in header row.now) labels.now root)))
         out.old result out.new }
 {
     let mut members = [0; GateNumber::MOST_GATES];
