@@ -215,7 +215,7 @@ AllShort ls = (l : List ℕ) → Memᴰ l ls → length l ≤ most_line
 
 mapped_short : (f : ℕ → List ℕ) (xs : List ℕ) → ((x : ℕ) → length (f x) ≤ most_line) → AllShort (map f xs)
 unfolding AllShort
-mapped_short f [] h l m = absurd (mathlib.Core.List.Memᴰ.not_nil m)
+mapped_short f [] h l m = absurd (mathlib.Core.List.Memᴰ.not-nil m)
 mapped_short f (x ∷ xs) h l m =
     ⊎_elim (λ (e : l ≡ f x). omega (arith, ap length e, h x)) (λ (m' : Memᴰ l (map f xs)). mapped_short f xs h l m')
     (mathlib.Core.List.Memᴰ.cases_cons m)

@@ -76,10 +76,10 @@ module _ (text : List ℕ) (h : Header) (l : Lent) (r : Readable text h l) where
   abbrev room : Rooms (size n) l
   room = rooms (size n) l none_short
 
-  module _ {row : List ℕ} (FilledIn : row ≡ filled (answer text l.row) l.row) where
+  module _ {row : List ℕ} (filled_in : row ≡ filled (answer text l.row) l.row) where
     read_row : row ≡ fill n.gates l.row
     unfolding answer in_room filled
-    read_row = let long = room.row in rw (r.reads, long) at FilledIn
+    read_row = let long = room.row in rw (r.reads, long) at filled_in
 
     told : row_answer h row ≡ network n
     told =

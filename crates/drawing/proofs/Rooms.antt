@@ -11,7 +11,6 @@ use Rattle.model.specs.Basics.{upto}
 use Rattle.model.specs.Network.{Gate, Network, size}
 use Rattle.model.specs.Drawing.{members}
 use Rattle.units.specs.Units.{held, capacity_place, delay_place}
-use Rattle.frames.specs.declared.Refusal.{Refusal}
 use Rattle.frames.specs.Digits.{spell_line, word_bytes, long_bytes}
 use Rattle.frames.proofs.Digits.{length_word_bytes}
 use Rattle.texts.specs.Spelling.{header_bytes, gate_bytes, end_bytes}

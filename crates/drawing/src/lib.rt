@@ -1,6 +1,8 @@
 // Whole texts. A network stands in its row, its labels and the marks of its drawn clusters in rows of their own: `prepare`
 // reads, labels and selects, `tell` writes a line of the result, or the one line of the refusal, and `tell_lines` as many as
 // have room.
+#![tactic(auto)]
+
 ghost use Rattle.std.specs.Prelude.{◌≡◌};
 ghost use Rattle.texts.specs.Reading.{reading};
 ghost use Rattle.drawing.specs.Prepared.{lent_of, any_short, prepared_lent, PreparedInto, Told, ToldLines};
