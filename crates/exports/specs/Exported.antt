@@ -4,11 +4,9 @@ use Rattle.units.specs.Units.{cells, ticks}
 use Rattle.frames.specs.Put.{line_at, line_answer, line_row}
 use Rattle.frames.specs.declared.Refusal.{Refusal}
 use Rattle.frames.specs.declared.Written.{Written}
-use Rattle.frames.specs.declared.Written.TheVariants as Written
 use Rattle.rows.specs.declared.Header.{Header}
 use Rattle.rows.specs.Spelling.{row_answer}
 use Rattle.labelling.specs.declared.Labelled.{Labelled}
-use Rattle.labelling.specs.declared.Labelled.TheVariants as Labelled
 use Rattle.labelling.specs.Promises.{label_answer, label_row}
 use Rattle.drawing.specs.Answer.{answer_lines}
 use Rattle.exports.specs.declared.Answer.{Answer}

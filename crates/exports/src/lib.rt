@@ -7,6 +7,8 @@
 //         const uint16_t *row, size_t row_length, uint32_t *labels, size_t labels_length);
 //     struct lykophene_answer lykophene_line(const uint8_t *text, size_t text_length, size_t index,
 //         uint8_t *out, size_t out_length);
+#![tactic(auto)]
+
 ghost use Rattle.std.specs.Prelude.{◌≡◌};
 ghost use Rattle.exports.specs.Exported.{header_from, refused, done, LabelledOut, LineOut};
 
@@ -18,7 +20,7 @@ use units::{Cells, GateNumber, Ticks};
 // A refusal's number, line and column, and length 0; or three times 0, for no refusal, and the length of the line written. Line and
 // column are as wide as those of a refusal, so that none is cut.
 #[repr(C)]
-#[derive(Drop)]
+#[derive(Clone, Copy)]
 pub struct Answer {
     pub number: u8,
     pub line: usize,
