@@ -5,6 +5,8 @@
 // are, one behind the other, all the lines that the text answers. No contract can say what C's `read` and `write` do: that
 // every block is handed to `show`, and by it to standard output, and that `main` answers the bytes that were read, is seen in
 // `print_block`, `show` and `main`.
+#![tactic(auto)]
+
 ghost use Rattle.std.specs.Prelude.{◌<◌, ◌≡◌, length};
 ghost use Rattle.io.specs.Counts.{IsPrefixLen};
 ghost use Rattle.texts.specs.Reading.{most_text};
@@ -24,7 +26,7 @@ const TEXT: usize = frames::MOST_TEXT + 1;
 const BLOCK: usize = 8_192;
 
 // How many lines were printed; or that a write failed.
-#[derive(Drop)]
+#[derive(Clone, Copy)]
 enum Printed {
     Lines(usize),
     Failed,

@@ -1,0 +1,12 @@
+-- `cluster::answer` meets its contract: its rows suffice for every text.
+use native.Mathlib.Omega.{arith}
+use Rattle.cluster.proofs.Blocks.{prepared_of}
+use Rattle.cluster.proofs.answer.Goals as goal
+
+pub print-requires : goal.print-requires
+print-requires c =
+    prepared_of c.prepare-prepared.ensures (omega arith)
+
+pub returns : goal.returns
+returns c =
+    c.print.ensures (prepared_of c.prepare-prepared.ensures (omega arith))
