@@ -1,5 +1,5 @@
 //! With the feature `staticlib` or `bench`: links every archive found in the directory that LYKOPHENE_STATICLIB
-//! names, by default ../target/staticlib.
+//! names, by default ../crates/exports/out, where `rt lib` leaves the library.
 
 use std::path::PathBuf;
 use std::{env, fs};
@@ -13,7 +13,7 @@ fn main() {
     let package = PathBuf::from(env::var_os("CARGO_MANIFEST_DIR").expect("cargo names the package"));
     let directory = match env::var_os("LYKOPHENE_STATICLIB") {
         Some(named) => PathBuf::from(named),
-        None => package.join("../target/staticlib"),
+        None => package.join("../crates/exports/out"),
     };
     println!("cargo:rerun-if-changed={}", directory.display());
     println!("cargo:rustc-link-search=native={}", directory.display());

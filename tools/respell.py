@@ -11,6 +11,8 @@ import sys
 
 WORD = re.compile(r"[^\s(){}\[\],;.«»\"`|]+")
 DASH = re.compile(r"[A-Za-z0-9']-[A-Za-z0-9]")
+# A library's, though no import in braces names it.
+LIBRARY = {"not-nil"}
 # What a dash alone does not tell.
 BY_HAND = {"getD-made": "get_or_made", "getD-in": "get_or_in"}
 
@@ -51,7 +53,7 @@ def words_of(text):
 def main():
     lemmas, functions = own_files()
     texts = {f: open(f).read() for f in lemmas + functions}
-    library = {n for t in texts.values() for m, n in imports(t) if not is_own(m)}
+    library = LIBRARY | {n for t in texts.values() for m, n in imports(t) if not is_own(m)}
     own = {w for f in lemmas for w in words_of(texts[f]) if w not in library}
     # of a function's proof, what it takes from a file of the project's
     own |= {n for f in functions for m, n in imports(texts[f]) if is_own(m) and DASH.search(n) and ".Tie" not in m}
