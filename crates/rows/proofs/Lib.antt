@@ -8,6 +8,7 @@ pub mod Holds
 pub mod RowCheck
 pub mod RowNumbers
 pub mod Checked
+pub mod Found
 mod CheckedExamples
 pub mod RoundTrip
 pub mod Room

@@ -1,5 +1,14 @@
 -- [T4] No second outcome meets a contract of `rows`.
-use mathlib.Core.Path.{refl, ap}
+use Prim.Native.Nat.{ℕ}
+use mathlib.Core.Path.{◌≡◌, refl, ap, sym, ◌∙◌}
+use mathlib.Core.List.{List, []}
+use Rattle.std.specs.Prelude.{Result, Ok, Err}
+use Rattle.frames.specs.declared.Refusal.{Refusal}
+use Rattle.rows.specs.declared.Header.{Header}
+use Rattle.rows.specs.declared.Read.{Read}
+use Rattle.rows.specs.declared.network.Network.{Network as Standing}
+use Rattle.rows.specs.Found.{NetworkFound}
+use Rattle.rows.specs.Read.{checked}
 use Rattle.units.specs.Units.{cells, ticks}
 use Rattle.units.specs.Outcome.{OneOutcome, OneContent}
 use Rattle.units.proofs.Unique.{same}
@@ -12,6 +21,7 @@ use Rattle.rows.proofs.is_input.Reads as is_input
 use Rattle.rows.proofs.put_gate.Reads as put_gate
 use Rattle.rows.proofs.put_fan_in.Reads as put_fan_in
 use Rattle.rows.proofs.check.Reads as check
+use Rattle.rows.proofs.network.Network.find.Reads as network_find
 
 -- Passed by value, or lent by `&`: nothing of the arguments changes, and the result is the whole outcome.
 
@@ -45,3 +55,21 @@ put_gate_unique κs args r s exit exit' p q = (refl, same p q)
 
 pub put_fan_in_unique : OneOutcome put_fan_in.Learnt (λ κs exit. exit.0.now)
 put_fan_in_unique κs args r s exit exit' p q = (refl, same p q)
+
+-- The network found is the header that is answered and the row that was handed over.
+
+abbrev pub content : (r : Result Standing Refusal) → Read × List ℕ
+content (Ok n) = (Read.Network n.header, n.row.now)
+content (Err f) = (Read.Refused f, [])
+
+abbrev row_of : Read → List ℕ → List ℕ
+row_of (Read.Network h) row = row
+row_of (Read.Refused f) row = []
+
+content_is : {h : Header} {row : List ℕ} (r : Result Standing Refusal) → NetworkFound h row r
+    → content r ≡ (checked h row, row_of (checked h row) row)
+content_is {h} {row} (Ok n) p = ap (λ (x : List ℕ). (Read.Network n.header, x)) p.same ∙ ap (λ (a : Read). (a, row_of a row)) p.answer
+content_is {h} {row} (Err f) p = ap (λ (a : Read). (a, row_of a row)) p.answer
+
+pub network_network_find_unique : OneContent network_find.Learnt (λ κs r. content r)
+network_network_find_unique κs args r s exit exit' p q = content_is r p ∙ sym (content_is s q)

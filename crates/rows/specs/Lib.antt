@@ -2,6 +2,7 @@
 pub mod Row
 pub mod Spelling
 pub mod Read
+pub mod Found
 pub mod Says
 pub mod Exactly
 pub mod steps

@@ -20,6 +20,8 @@ ghost use Rattle.rows.specs.steps.RowCheck.{
   row_fault,
 };
 
+pub mod network;
+
 use frames::{
     MOST_TEXT, NO_GATES, ONE_TOO_MANY, Refusal, TOO_HEAVY, TOO_LONG, UNORDERED, WRONG_LENGTH,
 };

@@ -1,0 +1,28 @@
+// A network that is known to stand in its row: `find` looks at a header and a row once, and what takes a `Network` need not look
+// again.
+ghost use Rattle.rows.specs.steps.Holds.{Holds};
+
+use crate::{Header, Read};
+use frames::Refusal;
+
+// A header within the ceilings, and a row in which its network stands.
+#[derive(Clone, Copy)]
+pub struct Network<'a> {
+    pub header: Header,
+    pub row: &'a [u16],
+    pub ghost holds: { Holds header row.now },
+}
+
+impl<'a> Network<'a> {
+    ghost use Rattle.rows.specs.Found.{NetworkFound};
+
+    // The network of a header and a row that were handed over, or what refuses them, as `check` answers.
+    pub fn find(header: Header, row: &'a [u16]) -> Result<Network<'a>, Refusal>
+        ensures { NetworkFound header row.now result }
+    {
+        match crate::check(header, row) {
+            Read::Network(header) => Ok(Network { header, row }),
+            Read::Refused(refusal) => Err(refusal),
+        }
+    }
+}
