@@ -3,7 +3,6 @@ use Rattle.units.specs.Outcome.{OneOutcome}
 use Rattle.units.proofs.Unique.{same}
 use Rattle.labelling.proofs.label.Reads as label
 use Rattle.labelling.proofs.cluster.Reads as cluster
-use Rattle.labelling.proofs.members_of.Reads as members_of
 
 -- The row of labels is the last of three parameters; the row of the network is lent to be read.
 pub label_unique : OneOutcome label.Learnt (λ κs exit. exit.1.1.0.now)
@@ -13,5 +12,3 @@ label_unique κs args r s exit exit' p q = (same p.answer q.answer, same p.kept 
 pub cluster_unique : OneOutcome cluster.Learnt (λ κs exit. exit.1.1.1.1.0.now)
 cluster_unique κs args r s exit exit' p q = (same p.answer q.answer, same p.kept q.kept)
 
-pub members_of_unique : OneOutcome members_of.Learnt (λ κs exit. exit.1.1.1.1.0.now)
-members_of_unique κs args r s exit exit' p q = (same p.many q.many, same p.row_is q.row_is)
