@@ -17,7 +17,8 @@ cleared : (c : After-fill) → c.fill.new.self ≡ replicate (suc c.args.v) 0
 cleared c =
     let long : length (take (c.args.v + 1) c.args.onward.now) ≡ suc c.args.v =
     omega (arith, length-take (c.args.v + 1) c.args.onward.now, few_gates _ _ c.args.network.now.holds) in
-    rw long at (c.fill.ensures.after (λ y e. e))
+    let zeros : c.fill.new.self ≡ replicate (length (take (c.args.v + 1) c.args.onward.now)) 0 = c.fill.ensures.after (λ y e. e) in
+    zeros ∙ ap (λ (k : ℕ). replicate k 0) long
 
 pub loop-y-init : goal.loop-y-init
 loop-y-init c = sweep_starts _ c.args.v _ _ (cleared_front c.args.v _ _ (cleared (goal.at.loop-y-init c).After-fill)) (omega arith)
