@@ -1,7 +1,6 @@
 -- `labelling::onward::reach` meets its contract. The loop's invariant: visiting the gates that are left gives the whole sweep, and
 -- no sum comes near 64 bits.
-use Rattle.std.proofs.Common.{◌≡◌, suc, ◌+◌, ◌-◌, ◌<◌, ◌∙◌, ap, List, ℕ, length, take, drop, replicate, length-take, arith}
-use Rattle.rows.specs.Found.{network_of}
+use Rattle.std.proofs.Common.{◌≡◌, suc, ◌+◌, ◌-◌, ◌<◌, ◌∙◌, ap, ℕ, length, take, replicate, length-take, arith}
 use Rattle.rows.proofs.Holds.{network_size, delay_stands, fanins_stand, few_gates, fanins_below, delay_most}
 use Rattle.labelling.proofs.OnwardLaws.{cleared_front, sweep_starts, sweep_next, sweep_ends}
 use Rattle.labelling.proofs.onward.reach.Goals as goal
