@@ -1,12 +1,11 @@
 -- Laws of lists.
-use Prim.Native.Nat.{ℕ, zero, suc, ◌≤◌, ◌<◌}
-use mathlib.Core.Path.{◌≡◌, refl, sym}
+use Prim.Native.Nat.{ℕ, zero, suc, ◌<◌}
+use mathlib.Core.Path.{◌≡◌, refl}
 use mathlib.Core.List.Memᴰ
 use mathlib.Core.List.{List, [], ◌∷◌, head?}
 use mathlib.Core.Option.{some}
 use native.Mathlib.Omega.{arith}
 use lib.ListN.{length, get_or, take, drop, take-append-drop}
-use lib.Seq.{length-take-le, get_or-take}
 use Rattle.model.specs.Basics.{◌∈◌}
 
 pub get_or_in : (xs : List ℕ) (i : ℕ) → i < length xs → get_or xs i 0 ∈ xs
@@ -23,8 +22,3 @@ drop_in i xs x m = rw (take-append-drop i xs) at (Memᴰ.append_right (take i xs
 pub head_in : (xs : List ℕ) (x : ℕ) → head? xs ≡ some x → x ∈ xs
 head_in [] x e = absurd (let z : ◌≡◌ {A = ℕ} 0 1 = cc in omega arith)
 head_in (y ∷ ys) x e = let q : x ≡ y = cc in Memᴰ.head q
-
--- a number of the front of a row
-pub taken_in : (row : List ℕ) (count i : ℕ) → count ≤ length row → i < count → get_or row i 0 ∈ take count row
-taken_in row count i h l =
-    rw (sym (get_or-take count row i 0 l)) (get_or_in (take count row) i (omega (arith, length-take-le count row h)))

@@ -4,7 +4,7 @@ use units::GateNumber;
 // A time for each gate.
 pub(crate) type Row = [u64; GateNumber::MOST_GATES];
 
-// A mark for each gate: 1 where it has one, 0 where not.
+// A mark for each gate: 1 where it has one, 0 where not; numbers, as the row of marks in the model's `mark`.
 pub(crate) type Marks = [u8; GateNumber::MOST_GATES];
 
 // Gates, in an order.

@@ -11,7 +11,7 @@ use Rattle.rows.specs.Found.{network_of}
 use Rattle.rows.specs.Row.{weight_in}
 use Rattle.rows.proofs.Holds.{weight_stands, capacity_stands, weight_most}
 use Rattle.labelling.proofs.Lists.{get_or_in}
-use Rattle.labelling.proofs.GrowthLaws.{Weighing, growing_starts, growing_joins, growing_stops, growing_ends, stops_next, no_next, inputs_start, inputs_join}
+use Rattle.labelling.proofs.GrowthLaws.{Weighing, growing_starts, growing_joins, growing_stops, growing_ends, inputs_start, inputs_join}
 use Rattle.labelling.proofs.growth.walk.Goals as goal
 use Rattle.labelling.proofs.growth.walk.Goals.{In-loop-u}
 
@@ -72,19 +72,12 @@ loop-u-preserved c =
       inputs = rw add-one (inputs_join _ _ _ _ _ _ _ x.here x.is c.loop-u.invariant.inputs c.or_input-inputs.ensures);
     }
 
-pub returns-then-not-within : goal.returns-then-not-within
-returns-then-not-within c =
-    let x = weighing (goal.at.returns-then-not-within c).In-loop-u c.weight.result c.plus-sum.result c.weight.ensures c.plus-sum.ensures in
+pub returns-then-not-within-clause-grown : goal.returns-then-not-within-clause-grown
+returns-then-not-within-clause-grown c =
+    let x = weighing (goal.at.returns-then-not-within-clause-grown c).In-loop-u c.weight.result c.plus-sum.result c.weight.ensures c.plus-sum.ensures in
     let fits : c.within.result ≡ leb c.plus-sum.result.0 (network_of c.args.network.now).capacity =
-    rw (capacity_stands _ _ c.args.network.now.holds) c.within.ensures in record {
-      stop = (omega arith, stops_next _ _ _ _ _ _ _ x);
-      grown = growing_stops _ _ _ _ _ _ _ x (sym fits ∙ c.if-not-within.true);
-      inputs = c.loop-u.invariant.inputs;
-    }
+    rw (capacity_stands _ _ c.args.network.now.holds) c.within.ensures in
+    growing_stops _ _ _ _ _ _ _ x (sym fits ∙ c.if-not-within.true)
 
-pub returns-after-loop-u : goal.returns-after-loop-u
-returns-after-loop-u c = record {
-  stop = (omega arith, no_next _ c.loop-u.joined (omega arith));
-  grown = growing_ends _ _ _ _ _ c.loop-u.invariant.growing (omega arith);
-  inputs = c.loop-u.invariant.inputs;
-}
+pub returns-after-loop-u-clause-grown : goal.returns-after-loop-u-clause-grown
+returns-after-loop-u-clause-grown c = growing_ends _ _ _ _ _ c.loop-u.invariant.growing (omega arith)
