@@ -1,6 +1,5 @@
 // Labels: of one gate from the labels below it, and of all gates.
-ghost use Rattle.std.specs.Prelude.{◌≡◌, ◌++◌, ℕ, ◌≤◌, ◌<◌, length, drop};
-ghost use Rattle.std.proofs.Math.Option.{some};
+ghost use Rattle.std.specs.Prelude.{◌≡◌, ◌++◌, ◌≤◌, ◌<◌, length, drop, IfSome};
 ghost use Rattle.model.specs.Ceilings.{most_gates};
 ghost use Rattle.model.specs.Label.{label_from, labels as labels_of};
 ghost use Rattle.units.specs.Units.{held_sum};
@@ -24,7 +23,7 @@ fn outside_pull(hop: Ticks, pulls: &Row, u: usize) -> Ticks
 
 // What the gate that stopped growth counts for: its pull and D, 0 if none did [L5].
 fn stop_pull(hop: Ticks, pulls: &Row, stop: Option<usize>) -> Ticks
-    requires { (s : ℕ) → stop_of stop ≡ some s → s < most_gates }
+    requires { IfSome stop (λ s. s < most_gates) }
     ensures { result.0 ≡ stop_pull hop.0 pulls.now (stop_of stop) }
 {
     match stop {

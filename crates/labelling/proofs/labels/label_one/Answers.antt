@@ -1,6 +1,8 @@
 -- `labelling::labels::label_one` meets its contract: a primary input has its delay, and any other gate the larger of the two pulls
 -- of its growth.
-use Rattle.std.proofs.Common.{sym, ◌∙◌, arith}
+use Rattle.std.proofs.Common.{◌<◌, sym, ◌∙◌, arith}
+use Rattle.std.proofs.lemmas.Option.{IfSome_then}
+use Rattle.model.specs.Ceilings.{most_gates}
 use Rattle.rows.proofs.Holds.{few_gates}
 use Rattle.labelling.proofs.LabelLaws.{label_of_input, label_of_reader}
 use Rattle.labelling.proofs.labels.label_one.Goals as goal
@@ -11,8 +13,9 @@ returns-then-is_input c =
     ∙ label_of_input c.args.labelled.now.network c.args.v c.requires _ (sym c.is_input.ensures ∙ c.if-is_input.true)
 
 pub stop_pull-stopped-requires : goal.stop_pull-stopped-requires
-stop_pull-stopped-requires c u e =
-    omega (arith, few_gates _ _ c.args.labelled.now.network.holds, c.grow-grown.ensures.grows_below.stops u e)
+stop_pull-stopped-requires c =
+    IfSome_then c.grow-grown.result.stop {P = λ s. s < c.args.v} {Q = λ s. s < most_gates} c.grow-grown.ensures.grows_below.stops
+    (λ s h. omega (arith, few_gates _ _ c.args.labelled.now.network.holds))
 
 pub returns : goal.returns
 returns c =
