@@ -5,7 +5,7 @@ ghost use Rattle.model.specs.Basics.{gather};
 ghost use Rattle.frames.specs.Digits.{figure, word_bytes, long_bytes};
 ghost use Rattle.frames.specs.Put.{Put, Fed};
 
-use crate::{Refusal, Written};
+use crate::Refusal;
 
 // The digit that says d.
 fn figure(d: u8) -> u8
@@ -83,13 +83,13 @@ pub fn put_words(out: &mut [u8], at: usize, words: &[u16]) -> usize
 }
 
 // The line feed, put past a line's digits; the answer is the line's length. Without room for it nothing is written.
-pub fn feed(out: &mut [u8], at: usize) -> Written
+pub fn feed(out: &mut [u8], at: usize) -> Result<usize, Refusal>
     ensures { Fed at out.old result out.new }
 {
     if at < out.len() {
         out[at] = b'\n';
-        Written::Line(at + 1)
+        Ok(at + 1)
     } else {
-        Written::Refused(Refusal::no_room())
+        Err(Refusal::no_room())
     }
 }
