@@ -1,7 +1,9 @@
 -- Laws of the faults of specs/steps/RowCheck.antt, as the code walks them.
 use Prim.Native.Nat.{ℕ, suc, ◌+◌, ◌-◌, ◌≤◌, ◌<◌}
-use Rattle.std.specs.Prelude.{Result, Ok, Err}
-use mathlib.Core.Path.{◌≡◌, refl, sym, ◌∙◌}
+use Rattle.std.specs.Prelude.{Result, Ok, Err, Option, Some, None}
+use Rattle.std.specs.Option.{ok_or}
+use Rattle.std.specs.Result.{result_ok}
+use mathlib.Core.Path.{◌≡◌, refl, sym, ◌∙◌, ap}
 use mathlib.Core.Bool.{true, false, ◌&&◌}
 use mathlib.Core.List.{List}
 use native.Mathlib.Numerals.{add-one}
@@ -28,6 +30,19 @@ use Rattle.rows.specs.steps.RowCheck.{
   row_fault,
 }
 use Rattle.rows.proofs.Access.{few_fanins}
+
+-- what was asked of a maker
+
+-- With nothing made the refusal is handed on.
+pub none_made : {T : Type 0} {o : Option T} {e f : Refusal} {r : Result T Refusal} → r ≡ ok_or o e → o ≡ result_ok r → r ≡ Err f
+    → (o ≡ None) × (e ≡ f)
+none_made {o = o} {e = e} {f = f} {r = r} p q is =
+    let none : o ≡ None = q ∙ ap result_ok is in
+    let same : Err e ≡ Err f = sym (rw none at p) ∙ is in (none, cc)
+
+-- Otherwise something is made.
+pub some_made : {T : Type 0} {o : Option T} {r : Result T Refusal} {x : T} → o ≡ result_ok r → r ≡ Ok x → o ≡ Some x
+some_made q is = q ∙ ap result_ok is
 
 -- gate by gate
 

@@ -1,6 +1,6 @@
 -- What is known of a network that `find` found, and of a refusal that it gave.
 use Prim.Native.Nat.{ℕ}
-use mathlib.Core.Path.{◌≡◌, refl, sym, ◌∙◌, ap}
+use mathlib.Core.Path.{◌≡◌, ap}
 use mathlib.Core.List.{List}
 use Rattle.std.specs.Prelude.{Result, Ok, Err}
 use Rattle.frames.specs.declared.Refusal.{Refusal}
@@ -8,7 +8,6 @@ use Rattle.texts.specs.Reading.{refused}
 use Rattle.rows.specs.declared.Header.{Header}
 use Rattle.rows.specs.declared.network.Network.{Network as Standing}
 use Rattle.rows.specs.Spelling.{row_answer}
-use Rattle.rows.specs.Read.{checked}
 use Rattle.rows.specs.Found.{header_found, NetworkFound}
 use Rattle.rows.proofs.Holds.{InRange}
 use Rattle.rows.proofs.Checked.{Known, check_network, check_refused}

@@ -202,12 +202,8 @@ fn gate_fault(row: &[u16], gate: usize) -> Result<(), Refusal>
     requires { gate + 2 < 2 ^ 64 }
     ensures { result ≡ gate_fault row.now gate }
 {
-    let units::Counted::Made(_) = FanInCount::new(count(row, gate)) else {
-        return Err(at_gate(WRONG_LENGTH, gate));
-    };
-    let units::Numbered::Made(_) = GateNumber::new(gate) else {
-        return Err(at_gate(ONE_TOO_MANY, gate));
-    };
+    FanInCount::new(count(row, gate)).ok_or(at_gate(WRONG_LENGTH, gate))?;
+    GateNumber::new(gate).ok_or(at_gate(ONE_TOO_MANY, gate))?;
     if !rising(fan_ins(row, gate), gate) {
         return Err(at_gate(UNORDERED, gate));
     }

@@ -1,7 +1,6 @@
 -- `rows::check` meets its contract: what the row answers is what its first fault tells, or the network.
-use mathlib.Core.Path.{◌≡◌, sym, ◌∙◌}
+use mathlib.Core.Path.{◌≡◌}
 use Rattle.std.proofs.lemmas.Result.{err_from_is_err_and}
-use Rattle.std.specs.Prelude.{Err}
 use Rattle.rows.specs.steps.RowCheck.{settled, row_fault}
 use Rattle.rows.proofs.Checked.{checked_network, checked_refused}
 use Rattle.rows.proofs.check.Goals as goal

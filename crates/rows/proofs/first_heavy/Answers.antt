@@ -13,7 +13,7 @@ pub returns-in_err-heavy_fault : goal.returns-in_err-heavy_fault
 returns-in_err-heavy_fault c =
     let p = err_from_is_err_and c.from_residual.result c.from_residual.ensures.1 in
     let told : heavy_fault c.loop-v.v (weight_in c.args.row.now c.loop-v.v) c.args.header.capacity.0 ≡ Err c.in_err-heavy_fault.field-0.0
-        = sym (rw c.weight.ensures at c.heavy_fault.ensures) ∙ c.in_err-heavy_fault.was in
+    = sym (rw c.weight.ensures at c.heavy_fault.ensures) ∙ c.in_err-heavy_fault.was in
     rw (p.1, p.2) (sym told ∙ heavy_here _ _ c.loop-v.v _ c.loop-v-test.true told ∙ c.loop-v.invariant)
 
 pub loop-v-preserved : goal.loop-v-preserved

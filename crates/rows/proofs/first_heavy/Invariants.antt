@@ -7,4 +7,3 @@ use Rattle.rows.proofs.first_heavy.Given as goal
 
 abbrev pub invariant-loop-v : goal.invariant-loop-v
 invariant-loop-v l = first_heavy_fault l.header.capacity.0 l.row l.v (l.header.gates - l.v) ≡ first_heavy_fault l.header.capacity.0 l.row 0 l.header.gates
-

@@ -1,6 +1,5 @@
 -- `rows::rising` meets its contract: a fan-in that is not in place decides, and past the last one all of them rise.
-use mathlib.Core.Path.{◌≡◌, sym, ◌∙◌}
-use lib.ListN.{get_or}
+use mathlib.Core.Path.{sym, ◌∙◌}
 use Rattle.rows.proofs.Faults.{rising_on, rising_broken, rising_over}
 use Rattle.rows.proofs.rising.Goals as goal
 

@@ -1,5 +1,4 @@
 -- `rows::row_fault` meets its contract: each check is made where those before it found nothing.
-use Prim.Native.Nat.{◌+◌, ◌^◌, ◌<◌}
 use mathlib.Core.Path.{◌≡◌, sym, ◌∙◌}
 use native.Mathlib.Omega.{arith}
 use Rattle.std.proofs.lemmas.Result.{err_from_is_err_and}

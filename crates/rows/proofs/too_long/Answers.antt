@@ -1,6 +1,6 @@
 -- `rows::too_long` meets its contract. Where it is left early the bytes are too many already.
-use Prim.Native.Nat.{◌+◌, ◌-◌, ◌<◌}
-use mathlib.Core.Path.{◌≡◌, sym, ◌∙◌}
+use Prim.Native.Nat.{◌+◌}
+use mathlib.Core.Path.{sym}
 use native.Mathlib.Omega.{arith}
 use borrow.Author.Tests.{lt-ltb, le-ltb}
 use Rattle.texts.specs.Reading.{most_text}
@@ -26,4 +26,4 @@ pub returns : goal.returns
 unfolding too_long
 returns c =
     let over = gates_length_over c.args.row.now c.loop-v.v c.args.gates (omega arith) in
-    sym (le-ltb (22 + gates_length c.args.row.now 0 c.args.gates) most_text (omega (arith, over, c.loop-v.invariant.0, c.loop-v.invariant.1)))
+    sym (le-ltb most_text (22 + gates_length c.args.row.now 0 c.args.gates) (omega (arith, over, c.loop-v.invariant.1)))
