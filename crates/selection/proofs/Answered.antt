@@ -7,6 +7,7 @@ use mathlib.Core.List.{List, ◌++◌}
 use lib.ListN.{length, drop}
 use Rattle.model.specs.Network.{Network, size}
 use Rattle.model.specs.Drawing.{marks as marks_of, drawn}
+use Rattle.std.specs.Prelude.{Result, Ok, Err}
 use Rattle.units.specs.declared.Ticks.{Ticks}
 use Rattle.frames.specs.declared.Refusal.{Refusal}
 use Rattle.frames.specs.Refusal.{no_room}
@@ -16,8 +17,7 @@ use Rattle.rows.specs.Row.{network_in}
 use Rattle.rows.proofs.Holds.{network_size}
 use Rattle.labelling.specs.Promises.{either_short}
 use Rattle.labelling.proofs.Room.{short, room}
-use Rattle.selection.specs.declared.Drawing.{Drawing}
-use Rattle.selection.specs.declared.Drawing.TheVariants as drawing
+use Rattle.selection.specs.declared.Drawn.{Drawn}
 use Rattle.selection.specs.Selection.{delay_from, drawn_answer, drawn_row, DrawingAnswered}
 
 -- a network that stands in its row: too little room for its gates in the lent rows, or enough
@@ -27,7 +27,7 @@ module _ (h : Header) (row labels marks : List ℕ) where
   n = network_in h row
 
   pub drawn_short : {f : Refusal} → f ≡ no_room → (length labels < h.gates) ⊎ (length marks < h.gates)
-      → DrawingAnswered (network n) labels marks (drawing.Refused f) marks
+      → DrawingAnswered (network n) labels marks (Err f) marks
   unfolding drawn_answer drawn_row
   drawn_short e k =
       let t : either_short (size n) labels marks ≡ true = rw (network_size h row) (short h.gates labels marks k) in
@@ -37,7 +37,7 @@ module _ (h : Header) (row labels marks : List ℕ) where
       → clusters ≡ length (drawn n labels)
       → delay.0 ≡ delay_from n labels
       → after ≡ marks_of n labels ++ drop h.gates marks
-      → DrawingAnswered (network n) labels marks (drawing.Drawn clusters delay) after
+      → DrawingAnswered (network n) labels marks (Ok (record { clusters = clusters; delay = delay })) after
   unfolding drawn_answer drawn_row
   drawn_made k l many time is =
       let t : either_short (size n) labels marks ≡ false = rw (network_size h row) (room h.gates labels marks k l) in
@@ -47,11 +47,11 @@ module _ (h : Header) (row labels marks : List ℕ) where
 
 module _ {reading : Reading} where
   pub drawn_refused : {f : Refusal} (labels marks : List ℕ) → reading ≡ refused f
-      → DrawingAnswered reading labels marks (drawing.Refused f) marks
+      → DrawingAnswered reading labels marks (Err f) marks
   unfolding drawn_answer drawn_row
   drawn_refused labels marks e = record { answer = rw e; kept = rw e }
 
-  pub drawn_told : {n : Network} {labels marks : List ℕ} {r : Drawing} {after : List ℕ} → reading ≡ network n
+  pub drawn_told : {n : Network} {labels marks : List ℕ} {r : Result Drawn Refusal} {after : List ℕ} → reading ≡ network n
       → DrawingAnswered (network n) labels marks r after
       → DrawingAnswered reading labels marks r after
   drawn_told e a = record { answer = rw e a.answer; kept = rw e a.kept }

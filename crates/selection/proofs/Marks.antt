@@ -8,6 +8,7 @@ use mathlib.Core.List.{List, [], ◌∷◌, ◌++◌, map, map-append, append-ni
 use native.Mathlib.Numerals.{add-one}
 use native.Mathlib.Omega.{arith}
 use borrow.Author.Tests.{eq-eqb, ne_eqb}
+use mir.Val.{bool_byte}
 use lib.Dec.{eqb}
 use lib.ListN.{length, get_or, set, drop, replicate, length-set, length-append, length-drop, length-replicate, get_or-replicate, drop_of_length-le}
 use lib.Seq.{drop-cons, get_or-set_same, get_or-set_other, ext_get_or, set_at}
@@ -18,7 +19,7 @@ use Rattle.model.proofs.Drawn.{length_mark}
 use Rattle.frames.proofs.Made.{length_made, get_or_made}
 use Rattle.frames.proofs.Puts.{gather_append}
 use Rattle.rows.specs.Row.{fanins_in}
-use Rattle.selection.specs.steps.Marking.{fanins_of, unmarked, largest_label, or_label, outside}
+use Rattle.selection.specs.steps.Marking.{fanins_of, unmarked, largest_label, outside}
 
 -- marks, a gate at a time
 
@@ -102,24 +103,33 @@ unfolding largest
 largest_last [] x = omega arith
 largest_last (y ∷ ys) x = let e = largest_last ys x in omega arith
 
-pub largest_next : (labels row : List ℕ) (v : ℕ)
-    → or_label (largest_label labels (unmarked row v)) (get_or row v 0) (get_or labels v 0)
-    ≡ largest_label labels (unmarked row (v + 1))
-unfolding largest_label unmarked
-largest_next labels row v =
-    rw add-one
-    (⊎_elim
-    (λ (t : eqb (get_or row v 0) 0 ≡ true).
-    rw (t, keep_one (λ u. eqb (get_or row u 0) 0) v t, map-append)
-    (sym (largest_last (map (λ u. get_or labels u 0) (keep (λ u. eqb (get_or row u 0) 0) (upto v))) (get_or labels v 0))))
-    (λ (t : eqb (get_or row v 0) 0 ≡ false). rw (t, keep_other (λ u. eqb (get_or row u 0) 0) v t))
-    (true_or_false (eqb (get_or row v 0) 0)))
+module _ (labels row : List ℕ) (v : ℕ) where
+  abbrev bare : ℕ → Bool
+  bare u = eqb (get_or row u 0) 0
+
+  pub largest_next : get_or row v 0 ≡ 0
+      → largest_label labels (unmarked row (v + 1)) ≡ max (largest_label labels (unmarked row v)) (get_or labels v 0)
+  unfolding largest_label unmarked
+  largest_next e =
+      rw (add-one, keep_one bare v (eq-eqb (get_or row v 0) 0 e), map-append)
+      (largest_last (map (λ u. get_or labels u 0) (keep bare (upto v))) (get_or labels v 0))
+
+  pub largest_same : (get_or row v 0 ≡ 0 → ⊥) → largest_label labels (unmarked row (v + 1)) ≡ largest_label labels (unmarked row v)
+  unfolding largest_label unmarked
+  largest_same d = rw (add-one, keep_other bare v (ne_eqb (get_or row v 0) 0 d))
 
 -- marks written from scratch, a gate at a time
 
 -- the mark that a gate starts with
 abbrev pub start_mark : List ℕ → ℕ → ℕ
 start_mark row v = cond (eqb (get_or row v 0) 0) 1 0
+
+pub byte_mark : (row : List ℕ) (v : ℕ) → bool_byte (eqb (get_or row v 0) 0) ≡ start_mark row v
+byte_mark row v = as_cond (eqb (get_or row v 0) 0)
+  where
+    as_cond : (b : Bool) → bool_byte b ≡ cond b 1 0
+    as_cond true = refl
+    as_cond false = refl
 
 -- so many marks in front, the rest of the row as it was
 abbrev pub Started : List ℕ → ℕ → List ℕ → List ℕ → Type 0
@@ -172,17 +182,23 @@ started_all row marks₀ marks v e s =
 
 -- marks of the gates of a list that lie outside, a gate at a time
 
-pub outside_next : (inside row xs : List ℕ) (i : ℕ) → i < length xs
-    → mark (cond (eqb (get_or inside (get_or xs i 0) 0) 0) (set row (get_or xs i 0) 1) row) (outside inside (drop (i + 1) xs))
-    ≡ mark row (outside inside (drop i xs))
-unfolding outside
-outside_next inside row xs i h =
-    let x = get_or xs i 0 in
-    let rest = drop (suc i) xs in
-    rw (add-one, drop-cons xs i 0)
-    (⊎_elim (λ (t : eqb (get_or inside x 0) 0 ≡ true). rw (t, keep_yes (λ y. eqb (get_or inside y 0) 0) x rest t) (unfold mark in refl))
-    (λ (t : eqb (get_or inside x 0) 0 ≡ false). rw (t, keep_no (λ y. eqb (get_or inside y 0) 0) x rest t))
-    (true_or_false (eqb (get_or inside x 0) 0)))
+module _ (inside row xs : List ℕ) (i : ℕ) (h : i < length xs) where
+  abbrev x : ℕ
+  x = get_or xs i 0
+
+  abbrev rest : List ℕ
+  rest = drop (suc i) xs
+
+  abbrev free : ℕ → Bool
+  free y = eqb (get_or inside y 0) 0
+
+  pub outside_next : get_or inside x 0 ≡ 0 → mark (set row x 1) (outside inside (drop (i + 1) xs)) ≡ mark row (outside inside (drop i xs))
+  unfolding outside mark
+  outside_next e = rw (add-one, drop-cons xs i 0, keep_yes free x rest (eq-eqb (get_or inside x 0) 0 e))
+
+  pub inside_next : (get_or inside x 0 ≡ 0 → ⊥) → mark row (outside inside (drop (i + 1) xs)) ≡ mark row (outside inside (drop i xs))
+  unfolding outside
+  inside_next d = rw (add-one, drop-cons xs i 0, keep_no free x rest (ne_eqb (get_or inside x 0) 0 d))
 
 pub outside_done : (inside row xs : List ℕ) (i : ℕ) → length xs ≤ i → mark row (outside inside (drop i xs)) ≡ row
 unfolding outside mark keep

@@ -22,10 +22,6 @@ unread row gates = unmarked (mark (replicate most_gates 0) (fanins_of row (upto 
 unfoldable pub largest_label : List ℕ → List ℕ → ℕ
 largest_label labels gates = largest (map (λ v. get_or labels v 0) gates)
 
--- the larger of a time and a gate's label, if the gate has no mark
-abbrev pub or_label : ℕ → ℕ → ℕ → ℕ
-or_label time mark label = cond (eqb mark 0) (max time label) time
-
 -- the gates of a list without a mark among those inside
 unfoldable pub outside : List ℕ → List ℕ → List ℕ
 outside inside gates = keep (λ x. eqb (get_or inside x 0) 0) gates
