@@ -71,8 +71,9 @@ root_known marks k i d h =
 abbrev pub marked : ℕ → Bool
 marked m = not (eqb m 0)
 
-abbrev pub numbered : List ℕ → List (ℕ × ℕ)
-numbered marks = filter (λ p. marked p.1) (enumerate_from 0 marks)
+-- of a gate's number and its mark
+abbrev pub is_root : ℕ × ℕ → Bool
+is_root p = marked p.1
 
 enumerate_last : (n : ℕ) (xs : List ℕ) (x : ℕ) → enumerate_from n (xs ++ (x ∷ [])) ≡ enumerate_from n xs ++ ((n + length xs, x) ∷ [])
 enumerate_last n [] x = let e : n ≡ n + 0 = omega arith in rw (← e)
@@ -81,7 +82,7 @@ enumerate_last n (y ∷ ys) x =
     ap (λ (r : List (ℕ × ℕ)). (n, y) ∷ r) (enumerate_last (n + 1) ys x ∙ rw e)
 
 -- A gate past the row's end has no mark.
-pub numbered_roots : (marks : List ℕ) (k : ℕ) → map (λ p. p.0) (numbered (take k marks)) ≡ roots marks k
+pub numbered_roots : (marks : List ℕ) (k : ℕ) → map (λ p. p.0) (filter is_root (enumerate_from 0 (take k marks))) ≡ roots marks k
 numbered_roots marks zero = sym (roots_none marks)
 numbered_roots marks (suc k) =
     ⊎_elim
@@ -94,12 +95,12 @@ numbered_roots marks (suc k) =
     (λ (d : get_or marks k 0 ≡ 0 → ⊥). rw (ne_eqb (get_or marks k 0) 0 d, front, from) (sym (rw add-one at (roots_marked marks k d))))
     (same_or_not (get_or marks k 0) 0)))
     (λ (l : length marks ≤ k).
-    ap (λ (front : List ℕ). map (λ p. p.0) (numbered front)) (take_all (suc k) marks (omega arith) ∙ sym (take_all k marks l))
+    ap (λ (front : List ℕ). map (λ p. p.0) (filter is_root (enumerate_from 0 front))) (take_all (suc k) marks (omega arith) ∙ sym (take_all k marks l))
     ∙ numbered_roots marks k
     ∙ sym (rw add-one at (roots_bare marks k (get_or-eq_default marks 0 l))))
     (cases_lt k (length marks))
 
-numbered_many : (n : ℕ) (marks : List ℕ) → length (filter (λ p. marked p.1) (enumerate_from n marks)) ≡ length (filter marked marks)
+numbered_many : (n : ℕ) (marks : List ℕ) → length (filter is_root (enumerate_from n marks)) ≡ length (filter marked marks)
 numbered_many n [] = refl
 numbered_many n (m ∷ marks) =
     let rest = numbered_many (n + 1) marks in
@@ -108,7 +109,7 @@ numbered_many n (m ∷ marks) =
 pub marked_roots : (marks : List ℕ) (k : ℕ) → length (filter marked (take k marks)) ≡ length (roots marks k)
 marked_roots marks k =
     sym (numbered_many 0 (take k marks))
-    ∙ sym (length-map (numbered (take k marks)) (λ (p : ℕ × ℕ). p.0))
+    ∙ sym (length-map (filter is_root (enumerate_from 0 (take k marks))) (λ (p : ℕ × ℕ). p.0))
     ∙ ap length (numbered_roots marks k)
 
 -- the marks of the drawn clusters

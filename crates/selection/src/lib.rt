@@ -127,8 +127,14 @@ pub fn count_marked(gates: usize, marks: &[u8]) -> usize
 pub fn nth_marked(gates: usize, marks: &[u8], index: usize) -> usize
     ensures { result ≡ get_or (roots marks.now gates) index gates }
 {
-    let roots = marks.iter().take(gates).enumerate().filter(|&(_, &mark)| mark != 0);
-    roots.map(|(root, _)| root).nth(index).unwrap_or(gates)
+    marks
+        .iter()
+        .take(gates)
+        .enumerate()
+        .filter(|&(_, &mark)| mark != 0)
+        .map(|(root, _)| root)
+        .nth(index)
+        .unwrap_or(gates)
 }
 
 // The inputs of a root's cluster marked.

@@ -1,11 +1,8 @@
 -- `selection::draw_inputs` meets its contract: the members that were found are the cluster's, and what lies outside
 -- of their fan-ins are its inputs.
-use mathlib.Core.Path.{◌≡◌, sym}
+use mathlib.Core.Path.{sym}
 use native.Mathlib.Omega.{arith}
-use lib.ListN.{take}
 use lib.Seq.{length-take-le}
-use Rattle.model.specs.Drawing.{members}
-use Rattle.rows.specs.Found.{network_of}
 use Rattle.rows.proofs.Holds.{few_gates}
 use Rattle.labelling.proofs.Found.{found_front, found_fits}
 use Rattle.selection.proofs.Selected.{members_below, inputs_drawn}

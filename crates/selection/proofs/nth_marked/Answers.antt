@@ -11,18 +11,18 @@ use Rattle.std.proofs.lemmas.Option.{unwrap_or-slice_get}
 use Rattle.std.proofs.lemmas.Iterator.Adapters.{option_map_id}
 use Rattle.std.proofs.lemmas.Iterator.{YieldsList-from_slice, YieldsList-from_take, YieldsList-from_map}
 use Rattle.std.proofs.lemmas.Iterator.Consumers.{YieldsList-at, YieldsList-from_filter, YieldsList-from_enumerate, nth_from_yields_List}
-use Rattle.selection.proofs.Roots.{marked, numbered_roots}
+use Rattle.selection.proofs.Roots.{is_root, numbered_roots}
 use Rattle.selection.proofs.nth_marked.Goals as goal
 
 pub returns : goal.returns
 returns c =
-    let at_index = nth_from_yields_List c.nth.result _ c.args.index c.nth.ensures.ran
+    let at_index = nth_from_yields_List c.nth.result _ _ c.nth.ensures.ran
     (YieldsList-from_map _ (λ p. p.0)
     (YieldsList-at c.map.ensures.source
-    (YieldsList-from_filter _ (λ p. marked p.1)
-    (YieldsList-at c.filter-roots.ensures.source (YieldsList-from_enumerate
+    (YieldsList-from_filter _ is_root
+    (YieldsList-at c.filter.ensures.source (YieldsList-from_enumerate
     (YieldsList-at c.enumerate.ensures.source (YieldsList-from_take c.args.gates (YieldsList-at c.take.ensures.source (YieldsList-from_slice c.args.marks.now (cc))) (cc))) (cc)))
-    c.filter-roots.ensures.closure
+    c.filter.ensures.closure
     (λ x r q k. search (rules, tests))))
     c.map.ensures.closure (λ x r q k. search rules)) in
     c.unwrap_or.ensures

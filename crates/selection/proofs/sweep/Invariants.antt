@@ -1,7 +1,6 @@
 -- `selection::sweep` meets its contract. The loop's invariant: the sweep from here gives what the whole sweep gives
 -- from the start.
 use mathlib.Core.Path.{◌≡◌}
-use lib.ListN.{length}
 use Rattle.model.specs.Drawing.{select}
 use Rattle.rows.specs.Found.{network_of}
 use Rattle.selection.proofs.sweep.Given as goal

@@ -1,5 +1,5 @@
 -- What selection finds in the rows, step by step.
-use Rattle.std.specs.Prelude.{ℕ, max, cond, List, map, eqb, get_or, replicate}
+use Rattle.std.specs.Prelude.{ℕ, List, map, eqb, get_or, replicate}
 use Rattle.model.specs.Basics.{keep, gather, upto, largest}
 use Rattle.model.specs.Ceilings.{most_gates}
 use Rattle.model.specs.Drawing.{mark}
