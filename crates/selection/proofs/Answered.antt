@@ -1,7 +1,7 @@
 -- Laws of specs/Selection.antt: what is answered in each case.
 use Prim.Native.Nat.{ℕ, ◌≤◌, ◌<◌}
 use mathlib.Core.Path.{◌≡◌}
-use mathlib.Core.Logic.{◌⊎◌}
+use mathlib.Core.Logic.{◌⊎◌, inl}
 use mathlib.Core.Bool.{true, false}
 use mathlib.Core.List.{List, ◌++◌}
 use lib.ListN.{length, drop}
@@ -12,36 +12,40 @@ use Rattle.units.specs.declared.Ticks.{Ticks}
 use Rattle.frames.specs.declared.Refusal.{Refusal}
 use Rattle.frames.specs.Refusal.{no_room}
 use Rattle.texts.specs.Reading.{Reading, refused, network}
-use Rattle.rows.specs.declared.Header.{Header}
-use Rattle.rows.specs.Row.{network_in}
+use Rattle.rows.specs.declared.network.Network.{Network as Standing}
+use Rattle.rows.specs.Found.{network_of}
 use Rattle.rows.proofs.Holds.{network_size}
 use Rattle.labelling.specs.Promises.{either_short}
+use Rattle.labelling.specs.WithLabels.{WithLabels}
+use Rattle.labelling.proofs.WithLabels.{unlabelled}
 use Rattle.labelling.proofs.Room.{short, room}
 use Rattle.selection.specs.declared.Drawn.{Drawn}
 use Rattle.selection.specs.Selection.{delay_from, drawn_answer, drawn_row, DrawingAnswered}
 
 -- a network that stands in its row: too little room for its gates in the lent rows, or enough
 
-module _ (h : Header) (row labels marks : List ℕ) where
-  abbrev n : Network
-  n = network_in h row
-
-  pub drawn_short : {f : Refusal} → f ≡ no_room → (length labels < h.gates) ⊎ (length marks < h.gates)
-      → DrawingAnswered (network n) labels marks (Err f) marks
+module _ (n : Standing) {labels marks : List ℕ} where
+  pub drawn_short : (length labels < n.header.gates) ⊎ (length marks < n.header.gates)
+      → DrawingAnswered (network (network_of n)) labels marks (Err no_room) marks
   unfolding drawn_answer drawn_row
-  drawn_short e k =
-      let t : either_short (size n) labels marks ≡ true = rw (network_size h row) (short h.gates labels marks k) in
-      record { answer = rw (t, e); kept = rw t }
+  drawn_short k =
+      let t : either_short (size (network_of n)) labels marks ≡ true =
+      rw (network_size n.header n.row.now) (short n.header.gates labels marks k) in
+      record { answer = rw t; kept = rw t }
 
-  pub drawn_made : {clusters : ℕ} {delay : Ticks} {after : List ℕ} → h.gates ≤ length labels → h.gates ≤ length marks
-      → clusters ≡ length (drawn n labels)
-      → delay.0 ≡ delay_from n labels
-      → after ≡ marks_of n labels ++ drop h.gates marks
-      → DrawingAnswered (network n) labels marks (Ok (record { clusters = clusters; delay = delay })) after
+  pub drawn_unlabelled : {f : Refusal} → WithLabels n labels (Err f) → DrawingAnswered (network (network_of n)) labels marks (Err f) marks
+  drawn_unlabelled w = let (less, is_no_room) = unlabelled w in rw is_no_room (drawn_short (inl less))
+
+  pub drawn_made : {clusters : ℕ} {delay : Ticks} {after : List ℕ} → n.header.gates ≤ length labels → n.header.gates ≤ length marks
+      → clusters ≡ length (drawn (network_of n) labels)
+      → delay.0 ≡ delay_from (network_of n) labels
+      → after ≡ marks_of (network_of n) labels ++ drop n.header.gates marks
+      → DrawingAnswered (network (network_of n)) labels marks (Ok (record { clusters = clusters; delay = delay })) after
   unfolding drawn_answer drawn_row
   drawn_made k l many time is =
-      let t : either_short (size n) labels marks ≡ false = rw (network_size h row) (room h.gates labels marks k l) in
-      record { answer = rw (t, many, ← time); kept = rw (t, network_size h row) is }
+      let s = network_size n.header n.row.now in
+      let t : either_short (size (network_of n)) labels marks ≡ false = rw s (room n.header.gates labels marks k l) in
+      record { answer = rw (t, many, ← time); kept = rw (t, s) is }
 
 -- a refusal handed on, and a network's answer
 

@@ -8,14 +8,13 @@ ghost use Rattle.model.specs.Ceilings.{most_gates};
 ghost use Rattle.model.specs.Drawing.{mark, inputs, select, marks as marks_of};
 ghost use Rattle.texts.specs.Reading.{network as a_network};
 ghost use Rattle.rows.specs.Found.{network_of};
-ghost use Rattle.rows.specs.Row.{network_in};
 ghost use Rattle.rows.specs.Spelling.{row_answer};
-ghost use Rattle.rows.specs.steps.Holds.{Holds};
 ghost use Rattle.labelling.specs.steps.Standing.{Below};
 ghost use Rattle.selection.specs.Selection.{delay_from, roots, DrawingAnswered};
 ghost use Rattle.selection.specs.steps.Marking.{fanins_of, unmarked, unread, largest_label, outside};
 
 use frames::Refusal;
+use labelling::labelled::Labelled;
 use rows::Header;
 use rows::network::Network;
 use units::{GateNumber, Ticks};
@@ -52,12 +51,12 @@ fn reads(network: &Network) -> Marks
 }
 
 // The largest label of a gate without a mark.
-fn largest_unmarked(row: &Marks, gates: usize, labels: &[u32]) -> Ticks
-    requires { (gates ≤ most_gates) × (gates ≤ length labels.now) }
-    ensures { result.0 ≡ largest_label labels.now (unmarked row.now gates) }
+fn largest_unmarked(row: &Marks, labelled: &Labelled) -> Ticks
+    ensures { result.0 ≡ largest_label labelled.now.labels.now (unmarked row.now labelled.now.network.header.gates) }
 {
+    let labels = &labelled.labels[..labelled.network.header.gates];
     let mut largest = Ticks(0);
-    for (&mark, &label) in row[..gates].iter().zip(labels) {
+    for (&mark, &label) in row.iter().zip(labels) {
         if mark == 0 {
             largest = largest.larger(Ticks(u64::from(label)));
         }
@@ -65,13 +64,11 @@ fn largest_unmarked(row: &Marks, gates: usize, labels: &[u32]) -> Ticks
     largest
 }
 
-// The largest label of a primary output [S5], of a network that `rows::check` has found in the row.
-pub fn output_delay(header: Header, row: &[u16], labels: &[u32]) -> Ticks
-    requires { Holds header row.now × (header.gates ≤ length labels.now) }
-    ensures { result.0 ≡ delay_from (network_in header row.now) labels.now }
+// The largest label of a primary output [S5].
+pub fn output_delay(labelled: &Labelled) -> Ticks
+    ensures { result.0 ≡ delay_from (network_of labelled.now.network) labelled.now.labels.now }
 {
-    let network = Network { header, row };
-    largest_unmarked(&reads(&network), header.gates, labels)
+    largest_unmarked(&reads(&labelled.network), labelled)
 }
 
 // A mark for each gate that has none in the other row, and for no other.
@@ -138,51 +135,51 @@ pub fn nth_marked(gates: usize, marks: &[u8], index: usize) -> usize
 }
 
 // The inputs of a root's cluster marked.
-fn draw_inputs(network: &Network, labels: &[u32], root: usize, marks: &mut [u8])
-    requires { (root < network.now.header.gates) × (network.now.header.gates ≤ length labels.now) × (length marks.old ≡ network.now.header.gates) }
-    ensures { marks.new ≡ mark marks.old (inputs (network_of network.now) labels.now root) }
+fn draw_inputs(labelled: &Labelled, root: usize, marks: &mut [u8])
+    requires { (root < labelled.now.network.header.gates) × (length marks.old ≡ labelled.now.network.header.gates) }
+    ensures { marks.new ≡ mark marks.old (inputs (network_of labelled.now.network) labelled.now.labels.now root) }
 {
     let mut room = [0; GateNumber::MOST_GATES];
-    let count = labelling::members_of(network.header, network.row, labels, root, &mut room);
+    let count = labelled.members_of(root, &mut room);
     let members = &room[..count];
     let mut inside = [0; GateNumber::MOST_GATES];
     mark(&mut inside, members);
-    mark_inputs(marks, &inside, network, members);
+    mark_inputs(marks, &inside, &labelled.network, members);
 }
 
 // With each marked root a mark for the inputs of its cluster [S2]: from the last gate to the first, since these stand below it.
-fn sweep(network: &Network, labels: &[u32], marks: &mut [u8])
-    requires { (network.now.header.gates ≤ length labels.now) × (length marks.old ≡ network.now.header.gates) }
-    ensures { marks.new ≡ select (network_of network.now) labels.now network.now.header.gates marks.old }
+fn sweep(labelled: &Labelled, marks: &mut [u8])
+    requires { length marks.old ≡ labelled.now.network.header.gates }
+    ensures { marks.new ≡ select (network_of labelled.now.network) labelled.now.labels.now labelled.now.network.header.gates marks.old }
 {
-    for root in (0..network.header.gates).rev() {
+    for root in (0..labelled.network.header.gates).rev() {
         if marks[root] != 0 {
-            draw_inputs(network, labels, root, marks);
+            draw_inputs(labelled, root, marks);
         }
     }
 }
 
 // The marks of the drawn clusters, in a row with a place for each gate and no more.
-fn select(network: &Network, labels: &[u32], marks: &mut [u8])
-    requires { (network.now.header.gates ≤ length labels.now) × (length marks.old ≡ network.now.header.gates) }
-    ensures { marks.new ≡ marks_of (network_of network.now) labels.now }
+fn select(labelled: &Labelled, marks: &mut [u8])
+    requires { length marks.old ≡ labelled.now.network.header.gates }
+    ensures { marks.new ≡ marks_of (network_of labelled.now.network) labelled.now.labels.now }
 {
-    mark_outputs(network, marks);
-    sweep(network, labels, marks);
+    mark_outputs(&labelled.network, marks);
+    sweep(labelled, marks);
 }
 
-// Selection of a network that is known to stand in its row.
-fn draw_known(network: &Network, labels: &[u32], marks: &mut [u8]) -> Result<Drawn, Refusal>
-    ensures { DrawingAnswered (a_network (network_of network.now)) labels.now marks.old result marks.new }
+// Selection of a network with labels, which stand already.
+fn draw_known(labelled: &Labelled, marks: &mut [u8]) -> Result<Drawn, Refusal>
+    ensures { DrawingAnswered (a_network (network_of labelled.now.network)) labelled.now.labels.now marks.old result marks.new }
 {
-    let gates = network.header.gates;
-    if labels.len() < gates || marks.len() < gates {
+    let gates = labelled.network.header.gates;
+    if marks.len() < gates {
         return Err(Refusal::no_room());
     }
-    select(network, labels, &mut marks[..gates]);
+    select(labelled, &mut marks[..gates]);
     Ok(Drawn {
         clusters: count_marked(gates, marks),
-        delay: output_delay(network.header, network.row, labels),
+        delay: output_delay(labelled),
     })
 }
 
@@ -193,5 +190,6 @@ pub fn draw(header: Header, row: &[u16], labels: &[u32], marks: &mut [u8]) -> Re
     ensures { DrawingAnswered (row_answer header row.now) labels.now marks.old result marks.new }
 {
     let network = Network::find(header, row)?;
-    draw_known(&network, labels, marks)
+    let labelled = Labelled::new(network, labels)?;
+    draw_known(&labelled, marks)
 }

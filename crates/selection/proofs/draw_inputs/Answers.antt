@@ -10,8 +10,8 @@ use Rattle.selection.proofs.draw_inputs.Goals as goal
 
 pub members_of-count-requires : goal.members_of-count-requires
 members_of-count-requires c =
-    let n = c.args.network.now in
-    (n.holds, c.requires.0, c.requires.1, omega (arith, few_gates _ _ n.holds))
+    let l = c.args.labelled.now in
+    record { known = c.requires.0; room = omega (arith, few_gates _ _ l.network.holds) }
 
 pub slice_bounds-room-end : goal.slice_bounds-room-end
 slice_bounds-room-end c = found_fits c.members_of-count.ensures
@@ -21,18 +21,18 @@ slice_bounds-members-end c = sym (length-take-le _ _ (found_fits c.members_of-co
 
 pub mark-requires : goal.mark-requires
 mark-requires c =
-    let n = c.args.network.now in
+    let l = c.args.labelled.now in
     rw (found_front c.members_of-count.ensures)
-    (λ x m. omega (arith, members_below n.header n.row.now c.args.labels.now c.args.root x m, few_gates _ _ n.holds))
+    (λ x m. omega (arith, members_below l.network.header l.network.row.now l.labels.now c.args.root x m, few_gates _ _ l.network.holds))
 
 pub mark_inputs-requires : goal.mark_inputs-requires
 mark_inputs-requires c =
-    let n = c.args.network.now in
-    (c.requires.2, rw (found_front c.members_of-count.ensures) (members_below n.header n.row.now c.args.labels.now c.args.root))
+    let l = c.args.labelled.now in
+    (c.requires.1, rw (found_front c.members_of-count.ensures) (members_below l.network.header l.network.row.now l.labels.now c.args.root))
 
 pub returns : goal.returns
 returns c =
-    let n = c.args.network.now in
+    let l = c.args.labelled.now in
     rw (c.mark_inputs.ensures, c.mark.ensures)
-    (inputs_drawn n.header n.row.now n.holds c.args.labels.now c.args.root c.requires.0 _ c.args.marks.now
+    (inputs_drawn l.network.header l.network.row.now l.network.holds l.labels.now c.args.root c.requires.0 _ c.args.marks.now
     (found_front c.members_of-count.ensures))

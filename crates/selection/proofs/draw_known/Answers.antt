@@ -2,7 +2,7 @@
 -- roots of the drawn clusters.
 use Prim.Native.Nat.{ℕ}
 use mathlib.Core.Path.{◌≡◌, sym, ◌∙◌, ap}
-use mathlib.Core.Logic.{inl, inr}
+use mathlib.Core.Logic.{inr}
 use mathlib.Core.List.{List, ◌++◌}
 use lib.ListN.{length, drop}
 use lib.Seq.{length-take-le}
@@ -14,11 +14,9 @@ use Rattle.selection.proofs.Roots.{drawn_roots}
 use Rattle.selection.proofs.Answered.{drawn_short, drawn_made}
 use Rattle.selection.proofs.draw_known.Goals as goal
 
-pub returns-then-labels-gates : goal.returns-then-labels-gates
-returns-then-labels-gates c =
-    let n = c.args.network.now in
-    drawn_short n.header n.row.now c.args.labels.now c.args.marks.now c.no_room.ensures
-    (elim c.then-labels-gates.either [ inl h ↦ inl h | inr h ↦ inr h.1 ])
+pub returns-then-marks-gates : goal.returns-then-marks-gates
+returns-then-marks-gates c =
+    rw c.no_room.ensures (drawn_short c.args.labelled.now.network (inr c.if-marks-gates.true))
 
 pub slice_bounds-select-end-2 : goal.slice_bounds-select-end-2
 slice_bounds-select-end-2 c =
@@ -26,20 +24,17 @@ slice_bounds-select-end-2 c =
 
 pub select-requires : goal.select-requires
 select-requires c =
-    (c.if-labels-gates.false, length-take-le _ _ c.if-marks-gates.false)
-
-pub output_delay-requires : goal.output_delay-requires
-output_delay-requires c =
-    (c.args.network.now.holds, c.if-labels-gates.false)
+    length-take-le _ _ c.if-marks-gates.false
 
 pub returns : goal.returns
 returns c =
-    let n = c.args.network.now in
-    let labels = c.args.labels.now in
+    let l = c.args.labelled.now in
+    let n = l.network in
+    let labels = l.labels.now in
     let rest = drop n.header.gates c.args.marks.now in
     let stands : c.select.new.marks ++ rest ≡ marks (network_of n) labels ++ rest =
     ap (λ (row : List ℕ). row ++ rest) c.select.ensures in
-    drawn_made n.header n.row.now labels c.args.marks.now c.if-labels-gates.false c.if-marks-gates.false
+    drawn_made n l.enough c.if-marks-gates.false
     (c.count_marked.ensures
     ∙ ap (λ (row : List ℕ). length (roots row n.header.gates)) stands
     ∙ ap length (drawn_roots (network_of n) labels n.header.gates rest (network_size n.header n.row.now)))

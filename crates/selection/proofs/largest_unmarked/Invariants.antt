@@ -6,4 +6,4 @@ use Rattle.selection.specs.steps.Marking.{unmarked, largest_label}
 use Rattle.selection.proofs.largest_unmarked.Given as goal
 
 abbrev pub invariant-loop-mark : goal.invariant-loop-mark
-invariant-loop-mark l = l.largest.0 ≡ largest_label l.labels (unmarked l.row (length l.yielded))
+invariant-loop-mark l = l.largest.0 ≡ largest_label l.labelled.labels.now (unmarked l.row (length l.yielded))

@@ -12,17 +12,17 @@ loop-root-preserved-then-marks-root-ne0 c =
     let root = c.loop-root.root - 1 in
     let one : suc root ≡ c.loop-root.root = omega arith in
     rw c.draw_inputs.ensures
-    (select_marked (network_of c.args.network.now) c.args.labels.now c.loop-root.marks root c.if-marks-root-ne0.true
+    (select_marked (network_of c.args.labelled.now.network) c.args.labelled.now.labels.now c.loop-root.marks root c.if-marks-root-ne0.true
     ∙ rw one c.loop-root.invariant)
 
 pub loop-root-preserved : goal.loop-root-preserved
 loop-root-preserved c =
     let root = c.loop-root.root - 1 in
     let one : suc root ≡ c.loop-root.root = omega arith in
-    select_bare (network_of c.args.network.now) c.args.labels.now c.loop-root.marks root c.if-marks-root-ne0.false
+    select_bare (network_of c.args.labelled.now.network) c.args.labelled.now.labels.now c.loop-root.marks root c.if-marks-root-ne0.false
     ∙ rw one c.loop-root.invariant
 
 pub returns : goal.returns
 returns c =
     let none_left : c.loop-root.root ≡ 0 = omega arith in
-    sym (select_none (network_of c.args.network.now) c.args.labels.now c.loop-root.marks) ∙ rw none_left at c.loop-root.invariant
+    sym (select_none (network_of c.args.labelled.now.network) c.args.labelled.now.labels.now c.loop-root.marks) ∙ rw none_left at c.loop-root.invariant

@@ -6,5 +6,5 @@ use Rattle.rows.specs.Found.{network_of}
 use Rattle.selection.proofs.sweep.Given as goal
 
 abbrev pub invariant-loop-root : goal.invariant-loop-root
-invariant-loop-root l = select (network_of l.network) l.labels l.root l.marks
-    ≡ select (network_of l.network) l.labels l.network.header.gates l.initial.marks
+invariant-loop-root l = select (network_of l.labelled.network) l.labelled.labels.now l.root l.marks
+    ≡ select (network_of l.labelled.network) l.labelled.labels.now l.labelled.network.header.gates l.initial.marks
