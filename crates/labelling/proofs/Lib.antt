@@ -7,5 +7,6 @@ pub mod LabelsLaws
 pub mod MemberLaws
 pub mod Found
 pub mod Room
+pub mod WithLabels
 pub mod Promises
 pub mod Unique

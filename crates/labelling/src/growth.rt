@@ -4,38 +4,31 @@ ghost use mathlib.Core.List.{head?};
 ghost use Rattle.model.specs.Ceilings.{most_gates};
 ghost use Rattle.model.specs.Network.{weight};
 ghost use Rattle.model.specs.Label.{grow};
-ghost use Rattle.rows.specs.Row.{network_in};
-ghost use Rattle.rows.specs.steps.Holds.{Holds};
-ghost use Rattle.labelling.specs.steps.Standing.{Whole, Below};
+ghost use Rattle.rows.specs.Found.{network_of};
+ghost use Rattle.labelling.specs.steps.Standing.{Below};
 ghost use Rattle.labelling.specs.steps.Growing.{stop_of, or_input, input_pulls, GrowsBelow, Grew};
 
+use crate::labelled::Labelled;
 use crate::order::in_order;
-use crate::own::{Order, Row};
-use rows::Header;
+use crate::own::{Row, Work};
+use rows::network::Network;
 use units::Ticks;
 
-// The gate that stopped growth, if one did.
-#[derive(Clone, Copy)]
-pub(crate) enum Stop {
-    At(usize),
-    Nothing,
-}
-
-// What growth comes to: how many gates of the ordered row joined, what stopped it, and the largest pull of an input among those
-// that joined, 0 if there is none [L5].
+// What growth comes to: how many gates of the ordered row joined, the gate that stopped it, if one did, and the largest pull of
+// an input among those that joined, 0 if there is none [L5].
 #[derive(Clone, Copy)]
 pub(crate) struct Grown {
     pub(crate) joined: usize,
-    pub(crate) stop: Stop,
+    pub(crate) stop: Option<usize>,
     pub(crate) inputs: Ticks,
 }
 
 // The larger of a time and the pull of u, if u is a primary input.
-fn or_input(row: &[u16], pulls: &Row, time: Ticks, u: usize) -> Ticks
-    requires { u < most_gates }
-    ensures { result.0 ≡ or_input row.now pulls.now time.0 u }
+fn or_input(network: &Network, pulls: &Row, time: Ticks, u: usize) -> Ticks
+    requires { u < network.now.header.gates }
+    ensures { result.0 ≡ or_input network.now.row.now pulls.now time.0 u }
 {
-    if rows::is_input(row, u) {
+    if rows::is_input(network.row, u) {
         time.larger(Ticks(pulls[u]))
     } else {
         time
@@ -43,28 +36,27 @@ fn or_input(row: &[u16], pulls: &Row, time: Ticks, u: usize) -> Ticks
 }
 
 // The cluster is v and those that join it in the order, up to the first that would overfill it [L4].
-fn walk(header: Header, row: &[u16], v: usize, pulls: &Row, ordered: &Order, count: usize) -> Grown
-    requires holds { Holds header row.now × (v < header.gates) }
-    requires whole { Whole ordered.now × (count ≤ v) × Below v (take count ordered.now) }
-    ensures stop { (result.joined ≤ count) × (stop_of result.stop ≡ head? (drop result.joined (take count ordered.now))) }
-    ensures grown { grow (network_in header row.now) (weight (network_in header row.now) v) (take count ordered.now)
-        ≡ record { joined = take result.joined (take count ordered.now); stop = stop_of result.stop } }
-    ensures inputs { result.inputs.0 ≡ input_pulls row.now pulls.now (take result.joined (take count ordered.now)) }
+fn walk(network: &Network, v: usize, pulls: &Row, ordered: &[usize]) -> Grown
+    requires known { v < network.now.header.gates }
+    requires gates { (length ordered.now < most_gates) × Below v ordered.now }
+    ensures stop { (result.joined ≤ length ordered.now) × (stop_of result.stop ≡ head? (drop result.joined ordered.now)) }
+    ensures grown { grow (network_of network.now) (weight (network_of network.now) v) ordered.now
+        ≡ record { joined = take result.joined ordered.now; stop = stop_of result.stop } }
+    ensures inputs { result.inputs.0 ≡ input_pulls network.now.row.now pulls.now (take result.joined ordered.now) }
 {
-    let mut sum = rows::weight(row, v);
+    let mut sum = rows::weight(network.row, v);
     let mut inputs = Ticks(0);
     let mut joined = 0;
-    let stop = 'grow: loop {
-        while joined < count {
-            let u = ordered[joined];
-            sum = sum.plus(rows::weight(row, u));
-            if !sum.within(header.capacity) {
-                break 'grow Stop::At(u);
+    let stop = 'grow: {
+        for &u in ordered {
+            sum = sum.plus(rows::weight(network.row, u));
+            if !sum.within(network.header.capacity) {
+                break 'grow Some(u);
             }
-            inputs = or_input(row, pulls, inputs, u);
+            inputs = or_input(network, pulls, inputs, u);
             joined += 1;
         }
-        break 'grow Stop::Nothing;
+        break 'grow None;
     };
     Grown {
         joined,
@@ -74,20 +66,11 @@ fn walk(header: Header, row: &[u16], v: usize, pulls: &Row, ordered: &Order, cou
 }
 
 // The growth of the cluster of v, from the labels of the gates below it.
-pub(crate) fn grow(
-    header: Header,
-    row: &[u16],
-    labels: &[u32],
-    v: usize,
-    onward: &mut Row,
-    pulls: &mut Row,
-    ordered: &mut Order,
-) -> Grown
-    requires holds { Holds header row.now × (v < header.gates) × (v ≤ length labels.now) }
-    requires whole { Whole onward.old × Whole pulls.old × Whole ordered.old }
-    ensures grows_below { GrowsBelow v onward.new pulls.new ordered.new result }
-    ensures grew { Grew (network_in header row.now) labels.now v pulls.new ordered.new result }
+pub(crate) fn grow(labelled: &Labelled, v: usize, work: &mut Work) -> Grown
+    requires { v < labelled.now.network.header.gates }
+    ensures grows_below { GrowsBelow v work.new.ordered result }
+    ensures grew { Grew (network_of labelled.now.network) labelled.now.labels.now v work.new.pulls work.new.ordered result }
 {
-    let count = in_order(header, row, labels, v, onward, pulls, ordered);
-    walk(header, row, v, pulls, ordered, count)
+    let count = in_order(labelled, v, work);
+    walk(&labelled.network, v, &work.pulls, &work.ordered[..count])
 }

@@ -1,14 +1,10 @@
 -- What labelling's own rows hold, and what they keep to.
-use Rattle.std.specs.Prelude.{ℕ, suc, ◌+◌, ◌*◌, ◌≤◌, ◌<◌, ◌^◌, ◌≡◌, List, [], ◌∷◌, cond, ltb, length, get_or, take}
+use Rattle.std.specs.Prelude.{ℕ, suc, ◌+◌, ◌*◌, ◌≤◌, ◌<◌, ◌^◌, ◌≡◌, List, [], ◌∷◌, cond, ltb, get_or, take}
 use Rattle.model.specs.Basics.{◌∈◌}
-use Rattle.model.specs.Ceilings.{most_gates, most_delay}
+use Rattle.model.specs.Ceilings.{most_delay}
 use Rattle.model.specs.Onward.{reach, in_cone}
 use Rattle.model.specs.Label.{pull, place, ordered}
 use Rattle.model.specs.Network.{Network}
-
--- the row has a place for each gate that a network can have
-abbrev pub Whole : List ℕ → Type 0
-Whole row = length row ≡ most_gates
 
 -- every number of the list is below k
 abbrev pub Below : ℕ → List ℕ → Type 0
@@ -34,7 +30,6 @@ pub record Pulled (n : Network) (labels : List ℕ) (v : ℕ) (onward pulls : Li
 
 -- The first `count` gates of the row are those of the cone of v, v excepted, by pull.
 pub record Arranged (v : ℕ) (onward pulls row : List ℕ) (count : ℕ) : Type 0 where
-  pub whole : Whole row
   pub few : count ≤ v
   pub gates : Below v (take count row)
   pub order : (n : Network) (labels : List ℕ) → Pulled n labels v onward pulls → take count row ≡ ordered n labels v

@@ -1,11 +1,7 @@
--- `labelling::growth::or_input` meets its contract: the code's test is the one that the definition makes.
-use mathlib.Core.Path.{sym, ◌∙◌}
+-- `labelling::growth::or_input` meets its contract: a gate's number is below the row's length.
+use Rattle.std.proofs.Common.{arith}
+use Rattle.rows.proofs.Holds.{few_gates}
 use Rattle.labelling.proofs.growth.or_input.Goals as goal
 
-pub returns-then-is_input : goal.returns-then-is_input
-returns-then-is_input c =
-    rw (sym c.is_input.ensures ∙ c.if-is_input.true) c.larger.ensures
-
-pub returns-else-is_input : goal.returns-else-is_input
-returns-else-is_input c =
-    rw (sym c.is_input.ensures ∙ c.if-is_input.false)
+pub bounds-pulls-u : goal.bounds-pulls-u
+bounds-pulls-u c = omega (arith, few_gates _ _ c.args.network.now.holds)

@@ -1,107 +1,91 @@
--- `labelling::growth::walk` meets its contract. The invariant of both loops: growing on gives what growing from the root
--- gives, and the time is the largest pull of a primary input that has joined.
-use Prim.Native.Nat.{ℕ, ◌≤◌, ◌<◌}
-use mathlib.Core.Path.{◌≡◌, sym, ◌∙◌}
-use mathlib.Core.List.{List}
-use native.Mathlib.Numerals.{add-one}
-use native.Mathlib.Omega.{arith}
+-- `labelling::growth::walk` meets its contract. The loop's invariant: growing on gives what growing from the root gives, and the
+-- time is the largest pull of a primary input that has joined.
+use Rattle.std.proofs.Common.{◌≡◌, ◌<◌, sym, ◌∙◌, ap, add-one, List, length, get_or, arith}
 use lib.Dec.{leb}
-use lib.ListN.{length, get_or, take}
-use lib.Seq.{length-take-le, get_or-take}
+use Rattle.std.specs.Prelude.{ℕ}
 use Rattle.model.specs.Ceilings.{most_gates}
 use Rattle.model.specs.Network.{weight}
 use Rattle.units.specs.declared.Cells.{Cells}
 use Rattle.units.specs.Units.{area_sum}
-use Rattle.rows.specs.Row.{weight_in, network_in}
+use Rattle.rows.specs.declared.network.Network.{Network as Standing}
+use Rattle.rows.specs.Found.{network_of}
+use Rattle.rows.specs.Row.{weight_in}
 use Rattle.rows.proofs.Holds.{weight_stands, capacity_stands, few_gates, weight_most}
 use Rattle.labelling.proofs.Lists.{get_or_in}
 use Rattle.labelling.proofs.GrowthLaws.{Weighing, growing_starts, growing_joins, growing_stops, growing_ends, stops_next, no_next, inputs_start, inputs_join}
 use Rattle.labelling.proofs.growth.walk.Goals as goal
-use Rattle.labelling.proofs.growth.walk.Goals.{In-loop-joined}
+use Rattle.labelling.proofs.growth.walk.Goals.{In-loop-u}
 
-pub grow-init : goal.grow-init
-grow-init c =
-    let n = network_in c.args.header c.args.row.now in
-    let k = c.requires.holds.1 in
-    let weighs : weight_in c.args.row.now c.args.v ≡ weight n c.args.v = sym (weight_stands c.args.header c.args.row.now c.args.v k) in (
-      omega arith,
-      growing_starts n c.args.v _ _ (c.weight-sum.ensures ∙ weighs) (rw weighs at (weight_most _ _ c.requires.holds.0 c.args.v k)),
-      inputs_start _ _,
-    )
+-- a gate's weight is the network's
+weighs : (n : Standing) (u : ℕ) → u < n.header.gates → weight_in n.row.now u ≡ weight (network_of n) u
+weighs n u h = sym (weight_stands n.header n.row.now u h)
 
--- The ordered row, and the next gate of it.
-module _ (c : In-loop-joined) where
+pub loop-u-init : goal.loop-u-init
+loop-u-init c =
+    let n = c.args.network.now in
+    let here = weighs n c.args.v c.requires.known in record {
+      so_far = omega arith;
+      growing = growing_starts _ c.args.v _ _ (c.weight-sum.ensures ∙ here)
+          (rw here at (weight_most _ _ n.holds c.args.v c.requires.known));
+      inputs = inputs_start _ _;
+    }
+
+-- The next gate of the ordered row.
+module _ (c : In-loop-u) where
+  abbrev n : Standing
+  n = c.args.network.now
+
   abbrev row : List ℕ
-  row = take c.args.count c.args.ordered.now
+  row = c.args.ordered.now
 
   abbrev next : ℕ
-  next = get_or c.args.ordered.now c.loop-joined.joined 0
+  next = get_or row c.loop-u.u-index 0
 
-  few : c.args.count < most_gates
-  few = omega (arith, c.requires, few_gates _ _ c.requires.holds.0)
-
-  row_long : length row ≡ c.args.count
-  row_long = length-take-le c.args.count c.args.ordered.now (omega (arith, c.requires, few))
-
-  next_is : next ≡ get_or row c.loop-joined.joined 0
-  next_is = sym (get_or-take c.args.count c.args.ordered.now c.loop-joined.joined 0 c.loop-joined-test.true)
-
-  next_known : next < c.args.header.gates
+  next_known : next < n.header.gates
   next_known =
-      let below = c.requires.whole.2 _ (get_or_in row c.loop-joined.joined (omega (arith, row_long))) in
-      omega (arith, next_is, c.requires)
+      let below = c.requires.gates.1 _ (get_or_in row c.loop-u.u-index (omega arith)) in
+      omega arith
 
   -- the next gate makes the sum this one
-  weighing : (heavy both : Cells) → heavy.0 ≡ weight_in c.args.row.now next → both.0 ≡ area_sum c.loop-joined.sum heavy
-      → Weighing (network_in c.args.header c.args.row.now) c.args.v row c.loop-joined.sum.0 c.loop-joined.joined next both.0
+  weighing : (heavy both : Cells) → heavy.0 ≡ weight_in n.row.now next → both.0 ≡ area_sum c.loop-u.sum heavy
+      → Weighing (network_of n) c.args.v row c.loop-u.sum.0 c.loop-u.joined next both.0
   weighing heavy both is adds =
-      let weighs : weight_in c.args.row.now next ≡ weight (network_in c.args.header c.args.row.now) next =
-      sym (weight_stands c.args.header c.args.row.now next next_known) in
+      let here = weighs n next next_known in
       record {
-        so_far = c.loop-joined.invariant.1;
-        few = omega (arith, few);
-        here = omega (arith, row_long);
-        is = next_is;
-        light = rw weighs at (weight_most _ _ c.requires.holds.0 next next_known);
-        adds = omega (arith, adds, is, weighs);
+        so_far = c.loop-u.invariant.growing;
+        few = omega arith;
+        here = omega arith;
+        is = ap (λ (i : ℕ). get_or row i 0) (sym c.loop-u.invariant.so_far);
+        light = rw here at (weight_most _ _ n.holds next next_known);
+        adds = omega (arith, adds, is, here);
       }
 
-pub bounds-ordered-joined : goal.bounds-ordered-joined
-bounds-ordered-joined c = omega (arith, few (goal.at.bounds-ordered-joined c).In-loop-joined)
-
 pub or_input-inputs-requires : goal.or_input-inputs-requires
-or_input-inputs-requires c =
-    omega (arith, next_known (goal.at.or_input-inputs-requires c).In-loop-joined, few_gates _ _ c.requires.holds.0)
+or_input-inputs-requires c = next_known (goal.at.or_input-inputs-requires c).In-loop-u
 
-pub loop-joined-preserved : goal.loop-joined-preserved
-loop-joined-preserved c =
-    let x = weighing (goal.at.loop-joined-preserved c).In-loop-joined c.weight.result c.plus-sum.result c.weight.ensures c.plus-sum.ensures in
-    let fits : c.within.result ≡ leb c.plus-sum.result.0 (network_in c.args.header c.args.row.now).capacity =
-    rw (capacity_stands _ _ c.requires.holds.0) c.within.ensures in (
-      omega arith,
-      rw add-one (growing_joins _ _ _ _ _ _ _ x (sym fits ∙ c.if-not-within.false)),
-      rw add-one (inputs_join _ _ _ _ _ _ _ x.here x.is c.loop-joined.invariant.2 c.or_input-inputs.ensures),
-    )
+pub loop-u-preserved : goal.loop-u-preserved
+loop-u-preserved c =
+    let x = weighing (goal.at.loop-u-preserved c).In-loop-u c.weight.result c.plus-sum.result c.weight.ensures c.plus-sum.ensures in
+    let fits : c.within.result ≡ leb c.plus-sum.result.0 (network_of c.args.network.now).capacity =
+    rw (capacity_stands _ _ c.args.network.now.holds) c.within.ensures in record {
+      so_far = omega arith;
+      growing = rw add-one (growing_joins _ _ _ _ _ _ _ x (sym fits ∙ c.if-not-within.false));
+      inputs = rw add-one (inputs_join _ _ _ _ _ _ _ x.here x.is c.loop-u.invariant.inputs c.or_input-inputs.ensures);
+    }
 
 pub returns-then-not-within : goal.returns-then-not-within
 returns-then-not-within c =
-    let x = weighing (goal.at.returns-then-not-within c).In-loop-joined c.weight.result c.plus-sum.result c.weight.ensures c.plus-sum.ensures in
-    let fits : c.within.result ≡ leb c.plus-sum.result.0 (network_in c.args.header c.args.row.now).capacity =
-    rw (capacity_stands _ _ c.requires.holds.0) c.within.ensures in
-    record {
+    let x = weighing (goal.at.returns-then-not-within c).In-loop-u c.weight.result c.plus-sum.result c.weight.ensures c.plus-sum.ensures in
+    let fits : c.within.result ≡ leb c.plus-sum.result.0 (network_of c.args.network.now).capacity =
+    rw (capacity_stands _ _ c.args.network.now.holds) c.within.ensures in record {
       stop = (omega arith, stops_next _ _ _ _ _ _ _ x);
       grown = growing_stops _ _ _ _ _ _ _ x (sym fits ∙ c.if-not-within.true);
-      inputs = c.loop-joined.invariant.2;
+      inputs = c.loop-u.invariant.inputs;
     }
 
-pub returns-after-loop-joined : goal.returns-after-loop-joined
-returns-after-loop-joined c =
-    let few : c.args.count < most_gates = omega (arith, c.requires, few_gates _ _ c.requires.holds.0) in
-    let ordered = take c.args.count c.args.ordered.now in
-    let long : length ordered ≡ c.args.count = length-take-le c.args.count c.args.ordered.now (omega (arith, c.requires, few)) in
-    let h : length ordered ≤ c.loop-joined.joined = omega (arith, long) in
-    record {
-      stop = (omega arith, no_next ordered c.loop-joined.joined h);
-      grown = growing_ends _ _ _ _ _ c.loop-joined.invariant.1 h;
-      inputs = c.loop-joined.invariant.2;
-    }
+pub returns-after-loop-u : goal.returns-after-loop-u
+returns-after-loop-u c = record {
+  stop = (omega arith, no_next _ c.loop-u.joined (omega arith));
+  grown = growing_ends _ _ _ _ _ c.loop-u.invariant.growing (omega arith);
+  inputs = c.loop-u.invariant.inputs;
+}

@@ -1,25 +1,20 @@
 -- `labelling::members::collect` meets its contract. The loop's invariant: the marked gates below x stand in front of the row.
-use mathlib.Core.Path.{refl, ◌∙◌}
-use native.Mathlib.Omega.{arith}
-use Rattle.labelling.proofs.MemberLaws.{collecting_starts, collecting_next, collecting_ends}
+use Rattle.std.proofs.Common.{arith}
+use Rattle.labelling.proofs.MemberLaws.{collecting_starts, collecting_one, collecting_other, collecting_ends}
 use Rattle.labelling.proofs.members.collect.Goals as goal
+use Rattle.labelling.proofs.members.collect.Goals.{then-mark-ne0, else-mark-ne0}
 
 pub loop-x-init : goal.loop-x-init
-loop-x-init c =
-    (omega arith, refl, collecting_starts _ _)
+loop-x-init c = collecting_starts _ _
 
 pub loop-x-preserved : goal.loop-x-preserved
 loop-x-preserved c =
-    let o = c.collect_one-count in (
-      omega arith,
-      o.auto.members ∙ c.loop-x.invariant.1,
-      collecting_next c.args.inside.now c.args.members.now c.loop-x.x c.loop-x.count o.result c.loop-x.members _ (omega arith)
-          c.loop-x.invariant.2
-          o.ensures.0
-          o.ensures.1,
-    )
+    elim c.if-mark-ne0.branch [
+      | then-mark-ne0 w ↦
+          rw (w.members-is, w.count-is) (collecting_one _ _ _ _ _ (omega arith) c.loop-x.invariant w.if-mark-ne0.true)
+      | else-mark-ne0 w ↦
+          rw (w.members-is, w.count-is) (collecting_other _ _ _ _ _ (omega arith) c.loop-x.invariant w.if-mark-ne0.false)
+    ]
 
 pub returns : goal.returns
-returns c =
-    collecting_ends c.args.inside.now c.args.members.now c.loop-x.x c.args.k c.loop-x.count c.loop-x.members (omega arith)
-    c.loop-x.invariant.2
+returns c = collecting_ends _ _ c.loop-x.x _ _ _ (omega arith) c.loop-x.invariant

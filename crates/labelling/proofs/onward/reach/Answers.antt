@@ -1,62 +1,45 @@
 -- `labelling::onward::reach` meets its contract. The loop's invariant: visiting the gates that are left gives the whole sweep, and
 -- no sum comes near 64 bits.
-use Prim.Native.Nat.{suc, ◌+◌, ◌-◌, ◌<◌}
-use mathlib.Core.Path.{◌≡◌, ◌∙◌, ap}
-use native.Mathlib.Omega.{arith}
-use lib.ListN.{length, take, replicate, length-set}
+use Rattle.std.proofs.Common.{◌≡◌, suc, ◌+◌, ◌-◌, ◌<◌, ◌∙◌, ap, List, ℕ, length, take, drop, replicate, length-take, arith}
+use Rattle.rows.specs.Found.{network_of}
 use Rattle.rows.proofs.Holds.{network_size, delay_stands, fanins_stand, few_gates, fanins_below, delay_most}
-use Rattle.labelling.proofs.OnwardLaws.{length_visit, cleared_long, cleared_front, sweep_starts, sweep_next, sweep_ends}
+use Rattle.labelling.proofs.OnwardLaws.{cleared_front, sweep_starts, sweep_next, sweep_ends}
 use Rattle.labelling.proofs.onward.reach.Goals as goal
+use Rattle.labelling.proofs.onward.reach.Goals.{After-fill}
 
-pub overflow_add-left : goal.overflow_add-left
-overflow_add-left c =
-    omega (arith, few_gates _ _ c.requires.0)
+pub overflow_add-reached : goal.overflow_add-reached
+overflow_add-reached c = omega (arith, few_gates _ _ c.args.network.now.holds)
 
-pub clear-requires : goal.clear-requires
-clear-requires c =
-    (c.requires.2, omega (arith, few_gates _ _ c.requires.0))
+pub slice_bounds-fill-end : goal.slice_bounds-fill-end
+slice_bounds-fill-end c = omega (arith, few_gates _ _ c.args.network.now.holds)
 
-pub bounds-onward-v : goal.bounds-onward-v
-bounds-onward-v c =
-    omega (arith, few_gates _ _ c.requires.0)
+cleared : (c : After-fill) → c.fill.new.self ≡ replicate (suc c.args.v) 0
+cleared c =
+    let long : length (take (c.args.v + 1) c.args.onward.now) ≡ suc c.args.v =
+    omega (arith, length-take (c.args.v + 1) c.args.onward.now, few_gates _ _ c.args.network.now.holds) in
+    rw long at (c.fill.ensures.after (λ y e. e))
 
-pub loop-left-init : goal.loop-left-init
-loop-left-init c =
-    let front : take (suc c.args.v) c.clear.new.onward ≡ replicate (suc c.args.v) 0 = cleared_front c.args.v (c.args.v + 1) c.args.onward.now _ (omega arith) c.clear.ensures in
-    let few = few_gates _ _ c.requires.0 in (
-      omega arith,
-      length-set c.clear.new.onward c.args.v 1
-          ∙ cleared_long (c.args.v + 1) c.args.onward.now _ (omega arith) c.clear.ensures
-          ∙ c.requires.2,
-      sweep_starts _ c.args.v _ c.clear.new.onward (front) (omega arith),
-    )
+pub loop-y-init : goal.loop-y-init
+loop-y-init c = sweep_starts _ c.args.v _ _ (cleared_front c.args.v _ _ (cleared (goal.at.loop-y-init c).After-fill)) (omega arith)
 
 pub visit-requires : goal.visit-requires
 visit-requires c =
-    let few = few_gates _ _ c.requires.0 in
-    (c.requires.0, omega arith, omega (arith, c.loop-left.invariant.2.within (c.loop-left.left - 1) (omega arith)))
+    let few = few_gates _ _ c.args.network.now.holds in
+    (omega arith, omega (arith, c.loop-y.invariant.within (c.loop-y.y - 1) (omega arith)))
 
-pub loop-left-preserved : goal.loop-left-preserved
-loop-left-preserved c =
-    let h = c.requires.0 in
-    let y = c.loop-left.left - 1 in
-    let k : y < c.args.header.gates = omega arith in (
-      omega arith,
-      ap length c.visit.ensures ∙ length_visit _ c.loop-left.onward y ∙ c.loop-left.invariant.1,
-      sweep_next _ c.args.v c.loop-left.left y _ c.loop-left.onward _ (omega arith) (omega arith)
-          (rw (delay_stands c.args.header c.args.row.now y k) (delay_most _ _ h y k))
-          (rw (fanins_stand c.args.header c.args.row.now y k) (fanins_below _ _ h y k))
-          c.loop-left.invariant.2
-          c.visit.ensures,
-    )
+pub loop-y-preserved : goal.loop-y-preserved
+loop-y-preserved c =
+    let n = c.args.network.now in
+    let y = c.loop-y.y - 1 in
+    let known : y < n.header.gates = omega arith in
+    sweep_next _ c.args.v c.loop-y.y y _ c.loop-y.onward _ (omega arith) (omega arith)
+    (rw (delay_stands n.header n.row.now y known) (delay_most _ _ n.holds y known))
+    (rw (fanins_stand n.header n.row.now y known) (fanins_below _ _ n.holds y known))
+    c.loop-y.invariant
+    c.visit.ensures
 
 pub returns : goal.returns
 returns c =
-    let front : take (suc c.args.v) c.clear.new.onward ≡ replicate (suc c.args.v) 0 = cleared_front c.args.v (c.args.v + 1) c.args.onward.now _ (omega arith) c.clear.ensures in (
-      c.loop-left.invariant.1,
-      sweep_ends _ c.args.v c.loop-left.left c.clear.new.onward c.loop-left.onward
-          (omega (arith, network_size c.args.header c.args.row.now))
-          (front)
-          (omega arith)
-          c.loop-left.invariant.2,
-    )
+    let n = c.args.network.now in
+    sweep_ends _ c.args.v c.loop-y.y _ c.loop-y.onward (omega (arith, network_size n.header n.row.now))
+    (cleared_front c.args.v _ _ (cleared (goal.at.returns c).After-fill)) (omega arith) c.loop-y.invariant
