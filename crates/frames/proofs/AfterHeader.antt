@@ -7,7 +7,7 @@ use mathlib.Core.Option.{none}
 use lib.Dec.{eqb}
 use borrow.Author.Tests.{ne_eqb}
 use Rattle.frames.specs.declared.Place.TheVariants.{AfterGates}
-use Rattle.frames.specs.declared.LineRead.TheVariants.{Refused}
+use Rattle.std.specs.Prelude.{Err}
 use Rattle.frames.specs.Refusal.{at_line}
 use Rattle.frames.specs.Text.{Line}
 use Rattle.frames.specs.Table.{misplaced, kind}
@@ -26,7 +26,7 @@ module _ (text : List ℕ) (at end gates line : ℕ) (two : form_fault (line_fro
   form = formed text at end two
 
   pub gates_3 : (byte_from text at ≡ 0x02 → ⊥) → (byte_from text at ≡ 0x0F → ⊥)
-      → Refused (at_line 3 line) ≡ judged at (AfterGates gates) line (line_from text at end)
+      → Err (at_line 3 line) ≡ judged at (AfterGates gates) line (line_from text at end)
   gates_3 not_gate not_end =
       let l = line_from text at end in
       sym

@@ -10,7 +10,8 @@ use lib.Seq.{slice}
 use lib.Dec.{eqb}
 use borrow.Author.Tests.{eq-eqb, ne_eqb}
 use Rattle.frames.specs.declared.Place.TheVariants.{AfterGates}
-use Rattle.frames.specs.declared.LineRead.TheVariants.{End, Refused}
+use Rattle.std.specs.Prelude.{Ok, Err}
+use Rattle.frames.specs.declared.LineRead.TheVariants.{End}
 use Rattle.frames.specs.Refusal.{at_line}
 use Rattle.frames.specs.Text.{Line}
 use Rattle.frames.specs.Table.{misplaced, wrong_length, one_too_many, unordered, miscounted, no_gates, kind, frame_length, end_count}
@@ -58,7 +59,7 @@ module _ (text : List ℕ) (at end gates line : ℕ) (two : form_fault (line_fro
     typed : kind (line_from text at end) ≡ 0x0F
     typed = kind_is form ∙ is
 
-    pub end_4 : (end - at ≡ 6 → ⊥) → Refused (at_line 4 line) ≡ judged at (AfterGates gates) line (line_from text at end)
+    pub end_4 : (end - at ≡ 6 → ⊥) → Err (at_line 4 line) ≡ judged at (AfterGates gates) line (line_from text at end)
     end_4 h =
         let l = line_from text at end in
         sym
@@ -71,7 +72,7 @@ module _ (text : List ℕ) (at end gates line : ℕ) (two : form_fault (line_fro
           let l = line_from text at end in
           end_length gates l typed ∙ ap not (eq-eqb (frame_length l) 3 (omega (arith, length_is form)))
 
-      pub end_7 : (word_from text (at + 2) ≡ gates → ⊥) → Refused (at_line 7 line) ≡ judged at (AfterGates gates) line (line_from text at end)
+      pub end_7 : (word_from text (at + 2) ≡ gates → ⊥) → Err (at_line 7 line) ≡ judged at (AfterGates gates) line (line_from text at end)
       end_7 h =
           let l = line_from text at end in
           sym
@@ -84,18 +85,17 @@ module _ (text : List ℕ) (at end gates line : ℕ) (two : form_fault (line_fro
             let l = line_from text at end in
             end_counts gates l typed ∙ ap not (eq-eqb (end_count l) gates (end_count_is form six_digits ∙ counted))
 
-        pub end_8 : gates ≡ 0 → Refused (at_line 8 line) ≡ judged at (AfterGates gates) line (line_from text at end)
+        pub end_8 : gates ≡ 0 → Err (at_line 8 line) ≡ judged at (AfterGates gates) line (line_from text at end)
         end_8 h =
             let l = line_from text at end in
             sym
             (judged_8 at (AfterGates gates) line l two (end_placed gates l typed) four (end_no_gate gates l typed) (end_no_fanins gates l typed) seven
             (end_some gates l typed ∙ eq-eqb gates 0 h))
 
-        pub end_read : (gates ≡ 0 → ⊥) → End (end + 1) ≡ judged at (AfterGates gates) line (line_from text at end)
+        pub end_read : (gates ≡ 0 → ⊥) → Ok (End (end + 1)) ≡ judged at (AfterGates gates) line (line_from text at end)
         end_read h =
             let l = line_from text at end in
             sym
             (judged_frame at (AfterGates gates) line l two (end_placed gates l typed) four (end_no_gate gates l typed) (end_no_fanins gates l typed) seven
             (end_some gates l typed ∙ ne_eqb gates 0 h)
-            ∙ end_frame gates l typed (at + length (slice at end text) + 1)
-            ∙ ap End (next_is form))
+            ∙ ap (λ r. Ok r) (end_frame gates l typed (at + length (slice at end text) + 1) ∙ ap End (next_is form)))

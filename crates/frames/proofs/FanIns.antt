@@ -13,6 +13,7 @@ use Rattle.units.specs.declared.Cells.{Cells}
 use Rattle.units.specs.declared.Ticks.{Ticks}
 use Rattle.units.specs.declared.FanInCount.{FanInCount}
 use Rattle.frames.specs.declared.Place.{Place}
+use Rattle.std.specs.Prelude.{Ok}
 use Rattle.frames.specs.declared.LineRead.TheVariants.{Gate}
 use Rattle.frames.specs.Text.{Line, lines}
 use Rattle.frames.specs.Table.{fault, kind, frame_length, gate_count, gate_fanins}
@@ -52,7 +53,7 @@ fan_ins_of text at end p count e is counted =
     }
 
 pub fan_ins_read : (text : List ℕ) (at : ℕ) (p : Place) (line : ℕ) (weight : Cells) (delay : Ticks) (count : FanInCount) (next : ℕ)
-    (l : Line) (ls : List Line) → lines (drop at text) ≡ l ∷ ls → line_read text at p line ≡ Gate weight delay count next → FanInsRead text at count.0 l
+    (l : Line) (ls : List Line) → lines (drop at text) ≡ l ∷ ls → line_read text at p line ≡ Ok (Gate weight delay count next) → FanInsRead text at count.0 l
 fan_ins_read text at p line weight delay count next l ls e r =
     let end = at + line_length (drop at text) in
     let read = frame_told text at p line (Gate weight delay count next) next r refl in

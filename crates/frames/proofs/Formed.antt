@@ -10,7 +10,7 @@ use native.Mathlib.Omega.{arith}
 use lib.ListN.{length, take, length-take, drop_of_length-le}
 use lib.Seq.{slice, slice-cons, length-slice}
 use borrow.Author.Tests.{ltb-true, lt-ltb, le-ltb, eqb-true, eq-eqb, ne_eqb, not-false}
-use Rattle.frames.specs.declared.Form.TheVariants.{Right, Wrong}
+use Rattle.std.specs.Prelude.{Ok, Err}
 use Rattle.frames.specs.Refusal.{at_column, at_line}
 use Rattle.frames.specs.Text.{Line, all_digits, digits_before, even}
 use Rattle.frames.specs.Table.{none_there, column}
@@ -49,11 +49,11 @@ pub right_form : (l : Line) → WellFormed l → form_fault l ≡ none
 right_form l w = rw (tests l, w.begun, w.spelled, w.evenly, w.ended)
 
 -- A line of which nothing is found.
-pub nothing_found : (line : ℕ) (l : Line) → form_found line l ≡ Right → form_fault l ≡ none
+pub nothing_found : (line : ℕ) (l : Line) → form_found line l ≡ Ok (tt {0}) → form_fault l ≡ none
 unfolding form_found
 nothing_found line l e = by (form_fault l) e
   where
-    by : (o : Option ℕ) → form_told o line l ≡ Right → o ≡ none
+    by : (o : Option ℕ) → form_told o line l ≡ Ok (tt {0}) → o ≡ none
     by none e = refl
     by (some k) e = never cc
 
@@ -83,7 +83,7 @@ module _ (text : List ℕ) (at end : ℕ) where
 
   -- what is found of the form, choice by choice
 
-  pub found_empty : (line : ℕ) → end ≤ at → Wrong (at_line 23 line) ≡ form_found line (line_from text at end)
+  pub found_empty : (line : ℕ) → end ≤ at → Err (at_line 23 line) ≡ form_found line (line_from text at end)
   unfolding form_found
   found_empty line h = rw (tests (line_from text at end), nothing_there h)
 
@@ -92,7 +92,7 @@ module _ (text : List ℕ) (at end : ℕ) where
     unfolding none_there
     some_there = rw (slice-cons at end text 0 begun inside)
 
-    pub found_bad : bad < end → Wrong (at_column 21 line (bad - at + 1)) ≡ form_found line (line_from text at end)
+    pub found_bad : bad < end → Err (at_column 21 line (bad - at + 1)) ≡ form_found line (line_from text at end)
     unfolding form_found column
     found_bad h =
         let ds = slice at end text in
@@ -104,20 +104,20 @@ module _ (text : List ℕ) (at end : ℕ) where
       all_there : all_digits (slice at end text) ≡ true
       all_there = before_all (slice at end text) (omega (arith, length-slice at end text inside))
 
-      pub found_odd : ((end - at) % 2 ≡ 0 → ⊥) → Wrong (at_line 22 line) ≡ form_found line (line_from text at end)
+      pub found_odd : ((end - at) % 2 ≡ 0 → ⊥) → Err (at_line 22 line) ≡ form_found line (line_from text at end)
       unfolding form_found
       found_odd h =
           rw
           (tests (line_from text at end), some_there, all_there, even_length (slice at end text), length-slice at end text inside, ne_eqb ((end - at) % 2) 0 h)
 
       module _ (whole : (end - at) % 2 ≡ 0) where
-        pub found_open : length text ≤ end → Wrong (at_line 24 line) ≡ form_found line (line_from text at end)
+        pub found_open : length text ≤ end → Err (at_line 24 line) ≡ form_found line (line_from text at end)
         unfolding form_found
         found_open h =
             rw
             (tests (line_from text at end), some_there, all_there, even_length (slice at end text), length-slice at end text inside, eq-eqb ((end - at) % 2) 0 whole, le-ltb end (length text) h)
 
-        pub found_right : end < length text → Right ≡ form_found line (line_from text at end)
+        pub found_right : end < length text → Ok (tt {0}) ≡ form_found line (line_from text at end)
         unfolding form_found
         found_right h =
             rw

@@ -14,7 +14,10 @@ use Rattle.model.specs.Ceilings.{most_gates, most_fanins}
 use Rattle.units.specs.Units.{cells, ticks}
 use Rattle.frames.specs.declared.Place.{Place}
 use Rattle.frames.specs.declared.Place.TheVariants.{AfterGates}
-use Rattle.frames.specs.declared.LineRead.TheVariants.{Gate, Refused}
+use Rattle.std.specs.Prelude.{Result, Ok, Err}
+use Rattle.frames.specs.declared.LineRead.{LineRead}
+use Rattle.frames.specs.declared.Refusal.{Refusal}
+use Rattle.frames.specs.declared.LineRead.TheVariants.{Gate}
 use Rattle.frames.specs.Refusal.{at_line}
 use Rattle.frames.specs.Text.{Line, bytes, words}
 use Rattle.frames.specs.Table.{misplaced, wrong_length, one_too_many, unordered, miscounted, no_gates, rising_from, kind, frame_length, gate_count, gate_fanins, gate_of}
@@ -27,8 +30,8 @@ use Rattle.frames.proofs.AfterHeader.{gates_type}
 
 -- Gates of the same numbers are the same.
 pub same_gate : {w w' d d' k k' : ℕ} (next : ℕ) → w ≡ w' → d ≡ d' → k ≡ k'
-    → Gate (cells w) (ticks d) (record { 0 = k }) next ≡ Gate (cells w') (ticks d') (record { 0 = k' }) next
-same_gate next p q r = λ i. Gate (cells (p i)) (ticks (q i)) (record { 0 = r i }) next
+    → ◌≡◌ {A = Result LineRead Refusal} (Ok (Gate (cells w) (ticks d) (record { 0 = k }) next)) (Ok (Gate (cells w') (ticks d') (record { 0 = k' }) next))
+same_gate next p q r = λ i. Ok (Gate (cells (p i)) (ticks (q i)) (record { 0 = r i }) next)
 
 -- The rows where the type is 02.
 pub gate_length : (p : Place) (l : Line) → kind l ≡ 0x02
@@ -82,12 +85,12 @@ module _ (text : List ℕ) (at end gates line : ℕ) (two : form_fault (line_fro
     wrong h = elim (dec_lt (end - at) 12) [ yes s ↦ short s | no s ↦ h (omega arith) ]
 
     told_4 : wrong_length (AfterGates gates) (line_from text at end) ≡ true
-        → Refused (at_line 4 line) ≡ judged at (AfterGates gates) line (line_from text at end)
+        → Err (at_line 4 line) ≡ judged at (AfterGates gates) line (line_from text at end)
     told_4 h =
         let l = line_from text at end in
         sym (judged_4 at (AfterGates gates) line l two (gate_placed gates l typed) h)
 
-    pub gate_4_count : most_fanins < byte_from text (at + 10) → Refused (at_line 4 line) ≡ judged at (AfterGates gates) line (line_from text at end)
+    pub gate_4_count : most_fanins < byte_from text (at + 10) → Err (at_line 4 line) ≡ judged at (AfterGates gates) line (line_from text at end)
     gate_4_count h =
         let l = line_from text at end in
         told_4
@@ -96,7 +99,7 @@ module _ (text : List ℕ) (at end gates line : ℕ) (two : form_fault (line_fro
         ∙ ap (λ t. t || not (eqb (frame_length l) (6 + 2 * gate_count l))) (lt-ltb most_fanins (gate_count l) (omega (arith, count_is form long)))))
 
     pub gate_4_length : (end - at ≡ 12 + 4 * byte_from text (at + 10) → ⊥)
-        → Refused (at_line 4 line) ≡ judged at (AfterGates gates) line (line_from text at end)
+        → Err (at_line 4 line) ≡ judged at (AfterGates gates) line (line_from text at end)
     gate_4_length h =
         let l = line_from text at end in
         told_4
@@ -117,7 +120,7 @@ module _ (text : List ℕ) (at end gates line : ℕ) (two : form_fault (line_fro
           ∙ ap₂ (λ x y. x || not y) (le-ltb most_fanins (gate_count l) (omega (arith, counted)))
           (eq-eqb (frame_length l) (6 + 2 * gate_count l) (omega (arith, length_is form, counted)))
 
-      pub gate_5 : most_gates ≤ gates → Refused (at_line 5 line) ≡ judged at (AfterGates gates) line (line_from text at end)
+      pub gate_5 : most_gates ≤ gates → Err (at_line 5 line) ≡ judged at (AfterGates gates) line (line_from text at end)
       gate_5 h =
           let l = line_from text at end in
           sym
@@ -131,18 +134,18 @@ module _ (text : List ℕ) (at end gates line : ℕ) (two : form_fault (line_fro
         ordered = gate_order gates (line_from text at end) typed ∙ ap (λ xs. not (rising_from 0 gates xs)) (fanins_are text at end)
 
         pub gate_6 : rising_from 0 gates (words (bytes (slice (at + 12) end text))) ≡ false
-            → Refused (at_line 6 line) ≡ judged at (AfterGates gates) line (line_from text at end)
+            → Err (at_line 6 line) ≡ judged at (AfterGates gates) line (line_from text at end)
         gate_6 h =
             let l = line_from text at end in
             sym (judged_6 at (AfterGates gates) line l two (gate_placed gates l typed) four five (ordered ∙ ap not h))
 
         pub gate_read : rising_from 0 gates (words (bytes (slice (at + 12) end text))) ≡ true
-            → Gate (cells (word_from text (at + 2))) (ticks (word_from text (at + 6))) (record { 0 = byte_from text (at + 10) }) (end + 1)
+            → Ok (Gate (cells (word_from text (at + 2))) (ticks (word_from text (at + 6))) (record { 0 = byte_from text (at + 10) }) (end + 1))
             ≡ judged at (AfterGates gates) line (line_from text at end)
         gate_read h =
             let l = line_from text at end in
             let long_enough : 12 ≤ end - at = omega arith in
-            let read : judged at (AfterGates gates) line l ≡ frame l (at + length (slice at end text) + 1) =
+            let read : judged at (AfterGates gates) line l ≡ Ok (frame l (at + length (slice at end text) + 1)) =
             judged_frame at (AfterGates gates) line l two (gate_placed gates l typed) four five (ordered ∙ ap not h)
             (gate_no_count gates l typed)
             (gate_no_end gates l typed) in

@@ -12,7 +12,10 @@ use borrow.Author.Tests.{eq-eqb, ne_eqb}
 use Rattle.units.specs.Units.{cells, ticks}
 use Rattle.frames.specs.declared.Place.{Place}
 use Rattle.frames.specs.declared.Place.TheVariants.{Opening}
-use Rattle.frames.specs.declared.LineRead.TheVariants.{Header, Refused}
+use Rattle.std.specs.Prelude.{Result, Ok, Err}
+use Rattle.frames.specs.declared.LineRead.{LineRead}
+use Rattle.frames.specs.declared.Refusal.{Refusal}
+use Rattle.frames.specs.declared.LineRead.TheVariants.{Header}
 use Rattle.frames.specs.Refusal.{at_line}
 use Rattle.frames.specs.Text.{Line}
 use Rattle.frames.specs.Table.{misplaced, wrong_length, one_too_many, unordered, miscounted, no_gates, kind, frame_length, header_capacity, header_hop}
@@ -33,7 +36,7 @@ header_length p l k = simp (eq-eqb (kind l) 0x01 k)
 
 -- An opening line has nothing to fear from the later rows.
 opening_frame : (at line : ℕ) (l : Line) → form_fault l ≡ none → misplaced Opening l ≡ false → wrong_length Opening l ≡ false
-    → judged at Opening line l ≡ frame l (at + length l.digits + 1)
+    → judged at Opening line l ≡ Ok (frame l (at + length l.digits + 1))
 unfolding one_too_many unordered miscounted no_gates
 opening_frame at line l two three four = judged_frame at Opening line l two three four refl refl refl refl
 
@@ -42,14 +45,14 @@ unfolding frame
 header_frame l next k = simp (eq-eqb (kind l) 0x01 k)
 
 -- Headers of the same numbers are the same.
-pub same_header : {c c' h h' : ℕ} (next : ℕ) → c ≡ c' → h ≡ h' → Header (cells c) (ticks h) next ≡ Header (cells c') (ticks h') next
-same_header next p q = λ i. Header (cells (p i)) (ticks (q i)) next
+pub same_header : {c c' h h' : ℕ} (next : ℕ) → c ≡ c' → h ≡ h' → ◌≡◌ {A = Result LineRead Refusal} (Ok (Header (cells c) (ticks h) next)) (Ok (Header (cells c') (ticks h') next))
+same_header next p q = λ i. Ok (Header (cells (p i)) (ticks (q i)) next)
 
 module _ (text : List ℕ) (at end line : ℕ) (two : form_fault (line_from text at end) ≡ none) where
   form : Formed text at end
   form = formed text at end two
 
-  pub header_3 : (byte_from text at ≡ 0x01 → ⊥) → Refused (at_line 3 line) ≡ judged at Opening line (line_from text at end)
+  pub header_3 : (byte_from text at ≡ 0x01 → ⊥) → Err (at_line 3 line) ≡ judged at Opening line (line_from text at end)
   header_3 h =
       let l = line_from text at end in
       sym
@@ -61,7 +64,7 @@ module _ (text : List ℕ) (at end line : ℕ) (two : form_fault (line_from text
         let l = line_from text at end in
         opening_type l ∙ ap not (eq-eqb (kind l) 0x01 (kind_is form ∙ is))
 
-    pub header_4 : (end - at ≡ 14 → ⊥) → Refused (at_line 4 line) ≡ judged at Opening line (line_from text at end)
+    pub header_4 : (end - at ≡ 14 → ⊥) → Err (at_line 4 line) ≡ judged at Opening line (line_from text at end)
     header_4 h =
         let l = line_from text at end in
         sym
@@ -69,7 +72,7 @@ module _ (text : List ℕ) (at end line : ℕ) (two : form_fault (line_from text
         (header_length Opening l (kind_is form ∙ is) ∙ ap not (ne_eqb (frame_length l) 7 (λ e. h (omega (arith, length_is form, form))))))
 
     pub header_read : end - at ≡ 14
-        → Header (cells (long_from text (at + 2))) (ticks (word_from text (at + 10))) (end + 1) ≡ judged at Opening line (line_from text at end)
+        → Ok (Header (cells (long_from text (at + 2))) (ticks (word_from text (at + 10))) (end + 1)) ≡ judged at Opening line (line_from text at end)
     header_read h =
         let l = line_from text at end in
         let four : wrong_length Opening l ≡ false =

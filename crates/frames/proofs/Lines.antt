@@ -10,6 +10,7 @@ use lib.Seq.{slice, take-nil, drop-drop}
 use lib.Dec.{ltb, eqb, leb-suc-suc}
 use borrow.Author.Tests.{lt-ltb, le-ltb}
 use Rattle.frames.specs.declared.Place.{Place}
+use Rattle.std.specs.Prelude.{Ok}
 use Rattle.frames.specs.declared.LineRead.TheVariants.{Nothing}
 use Rattle.frames.specs.Text.{Line, line_feed, begin, lines}
 use Rattle.frames.specs.Frames.{judged, first_read, line_read}
@@ -84,6 +85,6 @@ module _ (text : List ℕ) (at end : ℕ) (inside : at < length text) (ends : en
   unfolding line_read
   read_first p line = ap (first_read at p line) lines_from
 
-pub read_past : (text : List ℕ) (at : ℕ) (p : Place) (line : ℕ) → length text ≤ at → Nothing ≡ line_read text at p line
+pub read_past : (text : List ℕ) (at : ℕ) (p : Place) (line : ℕ) → length text ≤ at → Ok Nothing ≡ line_read text at p line
 unfolding line_read
 read_past text at p line h = rw (drop_of_length-le text {i = at} h)

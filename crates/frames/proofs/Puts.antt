@@ -1,30 +1,25 @@
 -- Laws of writing: what a put row is, and that puts in a row are one put.
-use Prim.Native.Nat.{ℕ, suc, ◌+◌, ◌*◌, ◌≤◌, ◌<◌}
-use mathlib.Core.Path.{◌≡◌, refl, sym, ap, ◌∙◌}
-use mathlib.Core.Bool.{Bool, true, false}
-use mathlib.Core.List.{List, [], ◌∷◌, ◌++◌, append_assoc}
+use Prim.Native.Nat.{ℕ, suc, ◌+◌, ◌*◌, ◌/◌, ◌%◌, ◌≤◌, ◌<◌}
+use mathlib.Core.Path.{◌≡◌, refl, ap, ◌∙◌}
+use mathlib.Core.Bool.{true, false}
+use mathlib.Core.List.{List, [], ◌∷◌, ◌++◌, append_assoc, append-nil}
 use native.Mathlib.Nat.{add-zero, add-suc, suc-add}
 use native.Mathlib.Numerals.{add-one}
 use native.Mathlib.Omega.{arith}
 use lib.ListN.{length, get_or, set, take, length-append, length-take}
 use lib.Seq.{sets, length-sets, take-suc}
 use lib.Dec.{leb}
-use borrow.Author.Tests.{le-leb, lt-leb, leb-true, leb-false}
+use borrow.Author.Tests.{le-leb, lt-leb}
+use Rattle.std.specs.Int.{w16, w32, to_be_bytes}
 use Rattle.model.specs.Basics.{gather}
-use Rattle.frames.specs.Digits.{byte_digits, word_bytes, digits}
+use Rattle.frames.specs.Digits.{figure, byte_digits, word_bytes, long_bytes, digits}
 use Rattle.frames.specs.Put.{room, Put}
+use Rattle.frames.proofs.Digits.{length_digits}
 
 -- The digits of these bytes stand in the row from that place on, and next is the place past them.
 pub record Stands (bs : List ℕ) (at : ℕ) (out : List ℕ) (next : ℕ) (row : List ℕ) : Type 0 where
   pub past : next ≡ at + length (digits bs)
   pub row_is : row ≡ sets out at (digits bs)
-
--- What a test of room that was answered says.
-pub has_room : (at needed len : ℕ) {r : Bool} → r ≡ leb (at + needed) len → r ≡ true → at + needed ≤ len
-has_room at needed len e t = leb-true (at + needed) len (sym e ∙ t)
-
-pub no_room : (at needed len : ℕ) {r : Bool} → r ≡ leb (at + needed) len → r ≡ false → len < at + needed
-no_room at needed len e t = leb-false (at + needed) len (sym e ∙ t)
 
 pub put_none : (bs : List ℕ) (at : ℕ) (out : List ℕ) → length out < at + length (digits bs) → Put bs at out at out
 unfolding room
@@ -83,20 +78,58 @@ unfolding digits gather byte_digits word_bytes
 length_words [] = refl
 length_words (w ∷ ws) = let rest : length (digits (gather word_bytes ws)) ≡ 4 * length ws = length_words ws in omega arith
 
-words_snoc : (ws : List ℕ) (i : ℕ) → i < length ws → gather word_bytes (take (i + 1) ws) ≡ gather word_bytes (take i ws) ++ word_bytes (get_or ws i 0)
-unfolding gather word_bytes
-words_snoc ws i more = rw (add-one, take-suc ws i 0) (gather_append word_bytes (take i ws) (get_or ws i 0 ∷ []))
+-- One more of a list's numbers behind the first i of them.
+gather_more : (f : ℕ → List ℕ) (xs : List ℕ) (i : ℕ) → i < length xs → gather f (take (i + 1) xs) ≡ gather f (take i xs) ++ f (get_or xs i 0)
+unfolding gather
+gather_more f xs i more = rw (add-one, take-suc xs i 0) (gather_append f (take i xs) (get_or xs i 0 ∷ []) ∙ ap (λ ys. gather f (take i xs) ++ ys) (append-nil (f (get_or xs i 0))))
 
 -- One more word put past the first i.
 pub words_more : (ws : List ℕ) (i at : ℕ) (out : List ℕ) (mid : ℕ) (part : List ℕ) (next : ℕ) (row : List ℕ)
     → i < length ws → at + 4 * length ws ≤ length out → Stands (gather word_bytes (take i ws)) at out mid part
     → Put (word_bytes (get_or ws i 0)) mid part next row → Stands (gather word_bytes (take (i + 1) ws)) at out next row
 words_more ws i at out mid part next row more h s p =
-    let e : gather word_bytes (take (i + 1) ws) ≡ gather word_bytes (take i ws) ++ word_bytes (get_or ws i 0) = words_snoc ws i more in
+    let e : gather word_bytes (take (i + 1) ws) ≡ gather word_bytes (take i ws) ++ word_bytes (get_or ws i 0) = gather_more word_bytes ws i more in
     let fits : at + length (digits (gather word_bytes (take (i + 1) ws))) ≤ length out =
     simp (length_words, length-take) (omega arith)
     in
     rw e (stands_then _ _ at out mid part next row (rw e at fits) s p)
+
+-- Bytes are two digits each.
+pub length_bytes : (bs : List ℕ) → length (digits bs) ≡ 2 * length bs
+unfolding digits
+length_bytes bs = length_digits bs
+
+-- One more byte put past the first i, a digit after the other.
+pub bytes_more : (bs : List ℕ) (i at : ℕ) (out : List ℕ) (mid : ℕ) (part : List ℕ) {high low : ℕ} → i < length bs
+    → high ≡ figure (get_or bs i 0 / 16) → low ≡ figure (get_or bs i 0 % 16)
+    → Stands (take i bs) at out mid part → Stands (take (i + 1) bs) at out (mid + 2) (set (set part mid high) (mid + 1) low)
+unfolding digits byte_digits
+bytes_more bs i at out mid part {high} {low} more h l s =
+    let e : digits (take (i + 1) bs) ≡ digits (take i bs) ++ byte_digits (get_or bs i 0) = gather_more byte_digits bs i more in
+    record {
+      past = omega (arith, s.past, ap length e, length-append (digits (take i bs)) (byte_digits (get_or bs i 0)));
+      row_is = rw (e, h, l) (cc (sets_append out at (digits (take i bs)) (byte_digits (get_or bs i 0)), s.past, s.row_is, add-one mid));
+    }
+
+-- What the bytes of a number are, and so what a put of them puts.
+pub word_be : (w : ℕ) → to_be_bytes w16 w ≡ word_bytes w
+unfolding word_bytes
+word_be w = refl
+
+pub long_be : (w : ℕ) → to_be_bytes w32 w ≡ long_bytes w
+unfolding long_bytes word_bytes
+long_be w =
+    let a : w / 16777216 % 256 ≡ w / 65536 / 256 % 256 = omega arith in
+    let b : w / 256 % 256 ≡ w % 65536 / 256 % 256 = omega arith in
+    let c : w % 256 ≡ w % 65536 % 256 = omega arith in
+    cc
+
+module _ (w : ℕ) {at : ℕ} {bs out : List ℕ} {next : ℕ} {row : List ℕ} where
+  pub put_word : bs ≡ to_be_bytes w16 w → Put bs at out next row → Put (word_bytes w) at out next row
+  put_word e p = rw (← word_be w, ← e) p
+
+  pub put_long : bs ≡ to_be_bytes w32 w → Put bs at out next row → Put (long_bytes w) at out next row
+  put_long e p = rw (← long_be w, ← e) p
 
 pub stands_none : (at : ℕ) (out : List ℕ) → Stands [] at out at out
 unfolding digits gather

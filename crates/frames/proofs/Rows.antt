@@ -6,8 +6,7 @@ use mathlib.Core.Option.{Option, none, some}
 use lib.ListN.{length}
 use Rattle.frames.specs.declared.Place.{Place}
 use Rattle.frames.specs.declared.Place.TheVariants.{Closed}
-use Rattle.frames.specs.declared.LineRead.TheVariants.{Refused}
-use Rattle.frames.specs.declared.Form.TheVariants.{Wrong}
+use Rattle.std.specs.Prelude.{Ok, Err}
 use Rattle.frames.specs.declared.Refusal.{Refusal}
 use Rattle.frames.specs.Refusal.{at_line}
 use Rattle.frames.specs.Text.{Line}
@@ -41,50 +40,50 @@ unfolding judged
 judged_is at p line l two = rw (rows_are p l two)
 
 module _ (at : ℕ) (p : Place) (line : ℕ) (l : Line) where
-  pub judged_form : {f : Refusal} → form_found line l ≡ Wrong f → judged at p line l ≡ Refused f
+  pub judged_form : {f : Refusal} → form_found line l ≡ Err f → judged at p line l ≡ Err f
   unfolding judged told form_found form_told or_else
   judged_form {f} e = rw (rows_then p l) (by (form_fault l) e)
     where
-      by : (o : Option ℕ) → form_told o line l ≡ Wrong f → told (or_else o (rows p l)) line l (frame l (at + length l.digits + 1)) ≡ Refused f
+      by : (o : Option ℕ) → form_told o line l ≡ Err f → told (or_else o (rows p l)) line l (frame l (at + length l.digits + 1)) ≡ Err f
       by none e = never cc
       by (some k) e = cc
 
   module _ (two : form_fault l ≡ none) where
-    pub judged_3 : misplaced p l ≡ true → judged at p line l ≡ Refused (at_line 3 line)
+    pub judged_3 : misplaced p l ≡ true → judged at p line l ≡ Err (at_line 3 line)
     unfolding rows told
     judged_3 three = rw (judged_is at p line l two) (simp three)
 
     module _ (three : misplaced p l ≡ false) where
-      pub judged_4 : wrong_length p l ≡ true → judged at p line l ≡ Refused (at_line 4 line)
+      pub judged_4 : wrong_length p l ≡ true → judged at p line l ≡ Err (at_line 4 line)
       unfolding rows told
       judged_4 four = rw (judged_is at p line l two) (simp (three, four))
 
       module _ (four : wrong_length p l ≡ false) where
-        pub judged_5 : one_too_many p l ≡ true → judged at p line l ≡ Refused (at_line 5 line)
+        pub judged_5 : one_too_many p l ≡ true → judged at p line l ≡ Err (at_line 5 line)
         unfolding rows told
         judged_5 five = rw (judged_is at p line l two) (simp (three, four, five))
 
         module _ (five : one_too_many p l ≡ false) where
-          pub judged_6 : unordered p l ≡ true → judged at p line l ≡ Refused (at_line 6 line)
+          pub judged_6 : unordered p l ≡ true → judged at p line l ≡ Err (at_line 6 line)
           unfolding rows told
           judged_6 six = rw (judged_is at p line l two) (simp (three, four, five, six))
 
           module _ (six : unordered p l ≡ false) where
-            pub judged_7 : miscounted p l ≡ true → judged at p line l ≡ Refused (at_line 7 line)
+            pub judged_7 : miscounted p l ≡ true → judged at p line l ≡ Err (at_line 7 line)
             unfolding rows told
             judged_7 seven = rw (judged_is at p line l two) (simp (three, four, five, six, seven))
 
             module _ (seven : miscounted p l ≡ false) where
-              pub judged_8 : no_gates p l ≡ true → judged at p line l ≡ Refused (at_line 8 line)
+              pub judged_8 : no_gates p l ≡ true → judged at p line l ≡ Err (at_line 8 line)
               unfolding rows told
               judged_8 eight = rw (judged_is at p line l two) (simp (three, four, five, six, seven, eight))
 
-              pub judged_frame : no_gates p l ≡ false → judged at p line l ≡ frame l (at + length l.digits + 1)
+              pub judged_frame : no_gates p l ≡ false → judged at p line l ≡ Ok (frame l (at + length l.digits + 1))
               unfolding rows told
               judged_frame eight = rw (judged_is at p line l two) (simp (three, four, five, six, seven, eight))
 
 -- After the end frame no line is in its place.
-pub closed_3 : (at line : ℕ) (l : Line) → form_fault l ≡ none → judged at Closed line l ≡ Refused (at_line 3 line)
+pub closed_3 : (at line : ℕ) (l : Line) → form_fault l ≡ none → judged at Closed line l ≡ Err (at_line 3 line)
 unfolding misplaced
 closed_3 at line l two = judged_3 at Closed line l two refl
 

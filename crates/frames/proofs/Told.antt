@@ -18,7 +18,8 @@ use Rattle.units.specs.declared.Ticks.{Ticks}
 use Rattle.units.specs.declared.FanInCount.{FanInCount}
 use Rattle.frames.specs.declared.Place.{Place}
 use Rattle.frames.specs.declared.LineRead.{LineRead}
-use Rattle.frames.specs.declared.LineRead.TheVariants.{Header, Gate, End, Refused, Nothing}
+use Rattle.std.specs.Prelude.{Ok, Err}
+use Rattle.frames.specs.declared.LineRead.TheVariants.{Header, Gate, End, Nothing}
 use Rattle.frames.specs.declared.Refusal.{Refusal}
 use Rattle.frames.specs.Refusal.{at_column}
 use Rattle.frames.specs.Text.{Line, lines}
@@ -31,12 +32,11 @@ use Rattle.frames.proofs.Rows.{faultless}
 use Rattle.frames.proofs.OfLine.{next_is}
 use Rattle.frames.proofs.Lines.{lines_from, read_first, read_past}
 
--- where the next line begins, if the answer is a frame
+-- where the next line begins behind a frame
 abbrev pub next_of : LineRead → Option ℕ
 next_of (Header c h n) = some n
 next_of (Gate w d k n) = some n
 next_of (End n) = some n
-next_of (Refused r) = none
 next_of Nothing = none
 
 -- The first line of those left is without fault, and is the frame that was read; the others begin at `next`.
@@ -83,19 +83,19 @@ frame_next l n = by (typed l n)
     by (end k h e) = ap next_of e
 
 -- an answer with a next line was judged to have no fault, and one without was not
-none_told : (o : Option ℕ) (line : ℕ) (l : Line) (f r : LineRead) (next : ℕ) → told o line l f ≡ r → next_of r ≡ some next
+none_told : (o : Option ℕ) (line : ℕ) (l : Line) (f r : LineRead) (next : ℕ) → told o line l f ≡ Ok r → next_of r ≡ some next
     → (o ≡ none) × (f ≡ r)
 unfolding told
-none_told none line l f r next e n = (refl, e)
-none_told (some k) line l f r next e n = never (cc (ap next_of e))
+none_told none line l f r next e n = (refl, cc)
+none_told (some k) line l f r next e n = never cc
 
-some_told : (o : Option ℕ) (line : ℕ) (l : Line) (f : LineRead) (n : ℕ) (r : Refusal) → next_of f ≡ some n → told o line l f ≡ Refused r
+some_told : (o : Option ℕ) (line : ℕ) (l : Line) (f : LineRead) (n : ℕ) (r : Refusal) → next_of f ≡ some n → told o line l f ≡ Err r
     → (o ≡ some r.number) × (r ≡ at_column r.number line (column r.number l))
 unfolding told
 some_told none line l f n r h e = never cc
 some_told (some j) line l f n r h e = let same : at_column j line (column j l) ≡ r = cc in rw (← same) (refl, refl)
 
-nothing_judged : (o : Option ℕ) (line : ℕ) (l : Line) (f : LineRead) (n : ℕ) → next_of f ≡ some n → told o line l f ≡ Nothing → ⊥
+nothing_judged : (o : Option ℕ) (line : ℕ) (l : Line) (f : LineRead) (n : ℕ) → next_of f ≡ some n → told o line l f ≡ Ok Nothing → ⊥
 unfolding told
 nothing_judged none line l f n h e = never cc
 nothing_judged (some j) line l f n h e = never cc
@@ -105,7 +105,7 @@ module _ (text : List ℕ) (at : ℕ) (p : Place) (line : ℕ) where
   left : (length text ≤ at) ⊎ (at < length text)
   left = elim (dec_lt at (length text)) [ yes h ↦ inr h | no h ↦ inl (omega arith) ]
 
-  there : at < length text → (r : LineRead) (next : ℕ) → line_read text at p line ≡ r → next_of r ≡ some next → FrameRead text at p next r
+  there : at < length text → (r : LineRead) (next : ℕ) → line_read text at p line ≡ Ok r → next_of r ≡ some next → FrameRead text at p next r
   unfolding judged
   there h r next e n =
       let end = at + line_length (drop at text) in
@@ -124,10 +124,10 @@ module _ (text : List ℕ) (at : ℕ) (p : Place) (line : ℕ) where
         inside = omega arith;
       }
 
-  pub frame_told : (r : LineRead) (next : ℕ) → line_read text at p line ≡ r → next_of r ≡ some next → FrameRead text at p next r
+  pub frame_told : (r : LineRead) (next : ℕ) → line_read text at p line ≡ Ok r → next_of r ≡ some next → FrameRead text at p next r
   frame_told r next e n = ⊎_elim (λ h. never (cc (read_past text at p line h))) (λ h. there h r next e n) left
 
-  refused_there : at < length text → (r : Refusal) → line_read text at p line ≡ Refused r → FaultRead text at p line r
+  refused_there : at < length text → (r : Refusal) → line_read text at p line ≡ Err r → FaultRead text at p line r
   unfolding judged
   refused_there h r e =
       let end = at + line_length (drop at text) in
@@ -142,10 +142,10 @@ module _ (text : List ℕ) (at : ℕ) (p : Place) (line : ℕ) where
         told_there = given.1;
       }
 
-  pub refused_told : (r : Refusal) → line_read text at p line ≡ Refused r → FaultRead text at p line r
+  pub refused_told : (r : Refusal) → line_read text at p line ≡ Err r → FaultRead text at p line r
   refused_told r e = ⊎_elim (λ h. never (cc (read_past text at p line h))) (λ h. refused_there h r e) left
 
-  nothing_there : at < length text → line_read text at p line ≡ Nothing → ⊥
+  nothing_there : at < length text → line_read text at p line ≡ Ok Nothing → ⊥
   unfolding judged
   nothing_there h e =
       let end = at + line_length (drop at text) in
@@ -153,7 +153,7 @@ module _ (text : List ℕ) (at : ℕ) (p : Place) (line : ℕ) where
       let n = at + length (slice at end text) + 1 in
       nothing_judged (fault p l) line l (frame l n) n (frame_next l n) (sym (read_first text at end h refl p line) ∙ e)
 
-  pub nothing_told : line_read text at p line ≡ Nothing → lines (drop at text) ≡ []
+  pub nothing_told : line_read text at p line ≡ Ok Nothing → lines (drop at text) ≡ []
   unfolding lines
   nothing_told e = ⊎_elim (λ h. ap lines (drop_of_length-le text {i = at} h)) (λ h. absurd (nothing_there h e)) left
 

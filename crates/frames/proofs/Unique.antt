@@ -8,9 +8,7 @@ use Rattle.frames.proofs.Refusal.at_no_line.Reads as refusal_at_no_line
 use Rattle.frames.proofs.Refusal.no_room.Reads as refusal_no_room
 use Rattle.frames.proofs.read_line.Reads as read_line
 use Rattle.frames.proofs.fan_in.Reads as fan_in
-use Rattle.frames.proofs.put.put_byte.Reads as put_put_byte
-use Rattle.frames.proofs.put.put_word.Reads as put_put_word
-use Rattle.frames.proofs.put.put_long.Reads as put_put_long
+use Rattle.frames.proofs.put.put.Reads as put_put
 use Rattle.frames.proofs.put.put_words.Reads as put_put_words
 use Rattle.frames.proofs.put.feed.Reads as put_feed
 
@@ -36,14 +34,8 @@ fan_in_unique κs args r s exit exit' p q = (same p q, refl)
 
 -- The row that is written is the first parameter.
 
-pub put_put_byte_unique : OneOutcome put_put_byte.Learnt (λ κs exit. exit.0.now)
-put_put_byte_unique κs args r s exit exit' p q = (same p.answer q.answer, same p.kept q.kept)
-
-pub put_put_word_unique : OneOutcome put_put_word.Learnt (λ κs exit. exit.0.now)
-put_put_word_unique κs args r s exit exit' p q = (same p.answer q.answer, same p.kept q.kept)
-
-pub put_put_long_unique : OneOutcome put_put_long.Learnt (λ κs exit. exit.0.now)
-put_put_long_unique κs args r s exit exit' p q = (same p.answer q.answer, same p.kept q.kept)
+pub put_put_unique : OneOutcome put_put.Learnt (λ κs exit. exit.0.now)
+put_put_unique κs args r s exit exit' p q = (same p.answer q.answer, same p.kept q.kept)
 
 pub put_put_words_unique : OneOutcome put_put_words.Learnt (λ κs exit. exit.0.now)
 put_put_words_unique κs args r s exit exit' p q = (same p.answer q.answer, same p.kept q.kept)

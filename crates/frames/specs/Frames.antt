@@ -1,10 +1,11 @@
 -- What reading one line answers: a frame, or a refusal at that line.
-use Rattle.std.specs.Prelude.{ℕ, ◌+◌, ◌*◌, cond, List, [], ◌∷◌, length, get_or, drop, eqb}
+use Rattle.std.specs.Prelude.{ℕ, ◌+◌, ◌*◌, cond, List, [], ◌∷◌, length, get_or, drop, eqb, Result, Ok, Err}
 use Rattle.std.proofs.Math.Option.{Option, none, some}
 use Rattle.units.specs.Units.{cells, ticks}
 use Rattle.frames.specs.declared.Place.{Place}
 use Rattle.frames.specs.declared.LineRead.{LineRead}
-use Rattle.frames.specs.declared.LineRead.TheVariants.{Header, Gate, End, Refused, Nothing}
+use Rattle.frames.specs.declared.LineRead.TheVariants.{Header, Gate, End, Nothing}
+use Rattle.frames.specs.declared.Refusal.{Refusal}
 use Rattle.frames.specs.Refusal.{at_column}
 use Rattle.frames.specs.Text.{Line, lines, digit}
 use Rattle.frames.specs.Table.{kind, header_capacity, header_hop, gate_of, gate_count, fault, column}
@@ -19,24 +20,24 @@ frame l next =
     (End next))
 
 -- A fault is told at its line, with its column.
-unfoldable pub told : Option ℕ → ℕ → Line → LineRead → LineRead
+unfoldable pub told : Option ℕ → ℕ → Line → LineRead → Result LineRead Refusal
 unfolding column
-told none line l r = r
-told (some k) line l r = Refused (at_column k line (column k l))
+told none line l r = Ok r
+told (some k) line l r = Err (at_column k line (column k l))
 
 -- What a line answers that begins at a place of the text: the next begins behind its line feed.
-unfoldable pub judged : ℕ → Place → ℕ → Line → LineRead
+unfoldable pub judged : ℕ → Place → ℕ → Line → Result LineRead Refusal
 unfolding frame told fault
 judged at p line l = told (fault p l) line l (frame l (at + length l.digits + 1))
 
 -- Of the lines that are left, the first is read.
-unfoldable pub first_read : ℕ → Place → ℕ → List Line → LineRead
+unfoldable pub first_read : ℕ → Place → ℕ → List Line → Result LineRead Refusal
 unfolding judged
-first_read at p line [] = Nothing
+first_read at p line [] = Ok Nothing
 first_read at p line (l ∷ ls) = judged at p line l
 
 -- What is read at a place of the text; a place past its end counts as its end.
-unfoldable pub line_read : List ℕ → ℕ → Place → ℕ → LineRead
+unfoldable pub line_read : List ℕ → ℕ → Place → ℕ → Result LineRead Refusal
 unfolding first_read lines
 line_read text at p line = first_read at p line (lines (drop at text))
 

@@ -16,9 +16,8 @@ ghost use Rattle.frames.specs.Frames.{judged, line_read, digit_at, byte_from, wo
 ghost use Rattle.frames.specs.steps.Cut.{long_from, line_length, line_from, form_found, form_fault};
 ghost use Rattle.frames.specs.Refusal.{at_column, at_line, at_no_line, no_room};
 ghost use Rattle.frames.specs.declared.Place.TheVariants.{Opening, AfterGates};
-ghost use Rattle.frames.specs.declared.LineRead.TheVariants.{Refused};
 
-use units::{Cells, Counted, Delayed, FanInCount, GateNumber, Numbered, Ticks, Weighed};
+use units::{Cells, FanInCount, GateNumber, Ticks};
 
 pub mod put;
 
@@ -38,7 +37,7 @@ pub struct Refusal {
     pub column: usize,
 }
 
-// What reading a line gives: a frame and where the next line begins, a refusal, or that the text ends here.
+// What reading a line gives where it is not refused: a frame and where the next line begins, or that the text ends here.
 #[derive(Clone, Copy)]
 pub enum LineRead {
     Header {
@@ -55,15 +54,7 @@ pub enum LineRead {
     End {
         next: usize,
     },
-    Refused(Refusal),
     Nothing,
-}
-
-// What writing a line answers: its length, line feed included, or a refusal.
-#[derive(Clone, Copy)]
-pub enum Written {
-    Line(usize),
-    Refused(Refusal),
 }
 
 // The bytes that a text may have [B5].
@@ -242,42 +233,28 @@ fn first_bad(text: &[u8], at: usize, end: usize) -> usize
     i
 }
 
-// What is found of the form of a line: nothing, or its refusal.
-#[derive(Clone, Copy)]
-enum Form {
-    Right,
-    Wrong(Refusal),
-}
-
 // The form of the line from `at` up to `end`, which is right where it is not empty, has digits alone and an even number of
 // them, and is ended: 23 where it is empty, and otherwise the first of 21, 22 and 24 that it has.
-fn line_form(text: &[u8], at: usize, end: usize, line: usize) -> Form
+fn line_form(text: &[u8], at: usize, end: usize, line: usize) -> Result<(), Refusal>
     requires { (at ≤ end) × (end ≤ length text.now) }
     ensures { result ≡ form_found line (line_from text.now at end) }
 {
     if end == at {
-        return Form::Wrong(Refusal::at_line(EMPTY_LINE, line));
+        return Err(Refusal::at_line(EMPTY_LINE, line));
     }
     let bad = first_bad(text, at, end);
     if bad < end {
         // Columns count from 1.
-        return Form::Wrong(Refusal::at_column(BAD_DIGIT, line, bad - at + 1));
+        return Err(Refusal::at_column(BAD_DIGIT, line, bad - at + 1));
     }
     let odd = (end - at) % 2;
     if odd != 0 {
-        return Form::Wrong(Refusal::at_line(ODD_DIGITS, line));
+        return Err(Refusal::at_line(ODD_DIGITS, line));
     }
     if text.len() <= end {
-        return Form::Wrong(Refusal::at_line(NOT_ENDED, line));
+        return Err(Refusal::at_line(NOT_ENDED, line));
     }
-    Form::Right
-}
-
-// A line's number, told at the line.
-fn refused(number: u8, line: usize) -> LineRead
-    ensures { result ≡ Refused (at_line number line) }
-{
-    LineRead::Refused(Refusal::at_line(number, line))
+    Ok(())
 }
 
 // The type of a header.
@@ -290,25 +267,25 @@ const GATE_TYPE: u64 = 0x02;
 const END_TYPE: u64 = 0x0F;
 
 // A well-formed line that opens the text: 3 by its type, 4 by its length, or a header.
-fn read_header(text: &[u8], at: usize, end: usize, line: usize) -> LineRead
+fn read_header(text: &[u8], at: usize, end: usize, line: usize) -> Result<LineRead, Refusal>
     requires { form_fault (line_from text.now at end) ≡ none }
     ensures { result ≡ judged at Opening line (line_from text.now at end) }
 {
     if byte_at(text, at) != HEADER_TYPE {
-        return refused(MISPLACED, line);
+        return Err(Refusal::at_line(MISPLACED, line));
     }
     if end - at != HEADER_DIGITS {
-        return refused(WRONG_LENGTH, line);
+        return Err(Refusal::at_line(WRONG_LENGTH, line));
     }
     // M stands behind the type, D behind M. D is always made: two bytes say at most 65,535.
-    let Delayed::Made(hop) = Ticks::delay(word_at(text, at + 10)) else {
-        return refused(WRONG_LENGTH, line);
+    let Some(hop) = Ticks::delay(word_at(text, at + 10)) else {
+        return Err(Refusal::at_line(WRONG_LENGTH, line));
     };
-    LineRead::Header {
+    Ok(LineRead::Header {
         capacity: Cells(long_at(text, at + 2)),
         hop,
         next: end + 1,
-    }
+    })
 }
 
 // Whether the numbers of four digits from `from` up to `end` rise strictly and are all below a gate's own number.
@@ -332,60 +309,78 @@ fn rising(text: &[u8], from: usize, end: usize, gate: GateNumber) -> bool
 
 // A well-formed line of type 02, after a header and so many gates: 4 by its count or length, 5 by its number, 6 by its
 // fan-ins, or a gate.
-fn read_gate(text: &[u8], at: usize, end: usize, gates: usize, line: usize) -> LineRead
+fn read_gate(
+    text: &[u8],
+    at: usize,
+    end: usize,
+    gates: usize,
+    line: usize,
+) -> Result<LineRead, Refusal>
     requires { (form_fault (line_from text.now at end) ≡ none) × (byte_from text.now at ≡ 0x02) }
     ensures { result ≡ judged at (AfterGates gates) line (line_from text.now at end) }
 {
     // The count of fan-ins stands behind type, weight and delay.
     let fan_ins = byte_at(text, at + 10) as usize;
-    let Counted::Made(count) = FanInCount::new(fan_ins) else {
-        return refused(WRONG_LENGTH, line);
+    let Some(count) = FanInCount::new(fan_ins) else {
+        return Err(Refusal::at_line(WRONG_LENGTH, line));
     };
     if end - at != BEFORE_FAN_INS + 4 * fan_ins {
-        return refused(WRONG_LENGTH, line);
+        return Err(Refusal::at_line(WRONG_LENGTH, line));
     }
-    let Numbered::Made(gate) = GateNumber::new(gates) else {
-        return refused(ONE_TOO_MANY, line);
+    let Some(gate) = GateNumber::new(gates) else {
+        return Err(Refusal::at_line(ONE_TOO_MANY, line));
     };
     if !rising(text, at + BEFORE_FAN_INS, end, gate) {
-        return refused(UNORDERED, line);
+        return Err(Refusal::at_line(UNORDERED, line));
     }
     // The weight stands behind the type, the delay behind the weight. Both are always made: two bytes say at most 65,535.
-    let Weighed::Made(weight) = Cells::weight(word_at(text, at + 2)) else {
-        return refused(WRONG_LENGTH, line);
+    let Some(weight) = Cells::weight(word_at(text, at + 2)) else {
+        return Err(Refusal::at_line(WRONG_LENGTH, line));
     };
-    let Delayed::Made(delay) = Ticks::delay(word_at(text, at + 6)) else {
-        return refused(WRONG_LENGTH, line);
+    let Some(delay) = Ticks::delay(word_at(text, at + 6)) else {
+        return Err(Refusal::at_line(WRONG_LENGTH, line));
     };
-    LineRead::Gate {
+    Ok(LineRead::Gate {
         weight,
         delay,
         count,
         next: end + 1,
-    }
+    })
 }
 
 // A well-formed line of type 0F, after a header and so many gates: 4 by its length, 7 by its count, 8 where there was no
 // gate, or an end.
-fn read_end(text: &[u8], at: usize, end: usize, gates: usize, line: usize) -> LineRead
+fn read_end(
+    text: &[u8],
+    at: usize,
+    end: usize,
+    gates: usize,
+    line: usize,
+) -> Result<LineRead, Refusal>
     requires { (form_fault (line_from text.now at end) ≡ none) × (byte_from text.now at ≡ 0x0F) }
     ensures { result ≡ judged at (AfterGates gates) line (line_from text.now at end) }
 {
     if end - at != END_DIGITS {
-        return refused(WRONG_LENGTH, line);
+        return Err(Refusal::at_line(WRONG_LENGTH, line));
     }
     // The number of gates stands behind the type.
     if word_at(text, at + 2) != gates as u64 {
-        return refused(MISCOUNTED, line);
+        return Err(Refusal::at_line(MISCOUNTED, line));
     }
     if gates == 0 {
-        return refused(NO_GATES, line);
+        return Err(Refusal::at_line(NO_GATES, line));
     }
-    LineRead::End { next: end + 1 }
+    Ok(LineRead::End { next: end + 1 })
 }
 
 // A well-formed line after a header and so many gates: a gate or the end.
-fn read_after_header(text: &[u8], at: usize, end: usize, gates: usize, line: usize) -> LineRead
+fn read_after_header(
+    text: &[u8],
+    at: usize,
+    end: usize,
+    gates: usize,
+    line: usize,
+) -> Result<LineRead, Refusal>
     requires { form_fault (line_from text.now at end) ≡ none }
     ensures { result ≡ judged at (AfterGates gates) line (line_from text.now at end) }
 {
@@ -396,32 +391,36 @@ fn read_after_header(text: &[u8], at: usize, end: usize, gates: usize, line: usi
     if kind == END_TYPE {
         return read_end(text, at, end, gates, line);
     }
-    refused(MISPLACED, line)
+    Err(Refusal::at_line(MISPLACED, line))
 }
 
 // A well-formed line, by what stood before it.
-fn read_formed(text: &[u8], at: usize, end: usize, place: Place, line: usize) -> LineRead
+fn read_formed(
+    text: &[u8],
+    at: usize,
+    end: usize,
+    place: Place,
+    line: usize,
+) -> Result<LineRead, Refusal>
     requires { form_fault (line_from text.now at end) ≡ none }
     ensures { result ≡ judged at place line (line_from text.now at end) }
 {
     match place {
         Place::Opening => read_header(text, at, end, line),
         Place::AfterGates(gates) => read_after_header(text, at, end, gates, line),
-        Place::Closed => refused(MISPLACED, line),
+        Place::Closed => Err(Refusal::at_line(MISPLACED, line)),
     }
 }
 
 // The line that begins at `at`, by what stood before it: its frame and where the next line begins, or the first number of
 // the table that it gives, with its line and column. A place past the text's end counts as its end.
-pub fn read_line(text: &[u8], at: usize, place: Place, line: usize) -> LineRead
+pub fn read_line(text: &[u8], at: usize, place: Place, line: usize) -> Result<LineRead, Refusal>
     ensures { result ≡ line_read text.now at place line }
 {
     if text.len() <= at {
-        return LineRead::Nothing;
+        return Ok(LineRead::Nothing);
     }
     let end = line_end(text, at);
-    match line_form(text, at, end, line) {
-        Form::Right => read_formed(text, at, end, place, line),
-        Form::Wrong(refusal) => LineRead::Refused(refusal),
-    }
+    line_form(text, at, end, line)?;
+    read_formed(text, at, end, place, line)
 }

@@ -1,15 +1,17 @@
 -- From what the code tests and where it reads and stores to the blocks of a row: whether the row has all places of a gate is
 -- asked of the whole blocks that it has, so that no product can be too large.
 use Prim.Native.Nat.{ℕ, zero, suc, ◌+◌, ◌*◌, ◌/◌, ◌-◌, ◌≤◌, ◌<◌, min}
-use mathlib.Core.Path.{◌≡◌, refl, sym, ◌∙◌}
+use mathlib.Core.Path.{◌≡◌, refl, sym, ◌∙◌, ap}
 use mathlib.Core.Bool.{true, false}
 use mathlib.Core.List.{List, [], ◌∷◌}
 use native.Mathlib.Decide.{ℕ_discrete, dec_lt}
 use native.Mathlib.Nat.{zero-add, suc-add, add_assoc}
 use native.Mathlib.Omega.{arith}
 use borrow.Author.Tests.{lt-ltb, le-ltb, le-leb, lt-leb, eq-eqb, ne_eqb}
+use borrow.Rule.Slice.PartMut.{put_mid}
+use Rattle.std.proofs.lemmas.Slice.{put_mid-paste}
 use lib.ListN.{length, get_or, set, take, drop, replicate, length-take}
-use lib.Seq.{sets, take-nil, get_or-take, get_or-drop, take-take, drop-drop}
+use lib.Seq.{sets, sets-eq, take-nil, get_or-take, get_or-drop, take-take, drop-drop}
 use lib.Dec.{ltb, eqb}
 use Rattle.model.specs.Ceilings.{most_fanins}
 use Rattle.model.specs.Network.{empty}
@@ -56,15 +58,14 @@ part_of m (suc n) k (x ∷ l) h = rw (suc-add n k) (part_of m n k l h)
 abbrev pub zeroed : ℕ → List ℕ → ℕ → List ℕ
 zeroed from row i = sets row (from + 3 + i) (replicate (most_fanins - i) 0)
 
-module _ (from : ℕ) (row : List ℕ) (i : ℕ) where
-  pub zeroed_next : i < most_fanins → zeroed from (set row (from + 3 + i) 0) (i + 1) ≡ zeroed from row i
-  zeroed_next h =
-      let left : most_fanins - i ≡ suc (most_fanins - (i + 1)) = omega arith in
-      let next : from + 3 + (i + 1) ≡ suc (from + 3 + i) = omega arith in
-      rw (left, next)
-
-  pub zeroed_over : most_fanins ≤ i → zeroed from row i ≡ row
-  zeroed_over h = let left : most_fanins - i ≡ 0 = omega arith in rw left
+-- the part of a block behind its count overwritten with 0
+pub zeroed_part : (from k : ℕ) (row zeros : List ℕ) → k ≡ most_fanins → from + places ≤ length row → zeros ≡ replicate k 0
+    → put_mid (from + 3) k row zeros ≡ zeroed from row 0
+zeroed_part from k row zeros few long is =
+    let there : from + 3 ≡ from + 3 + 0 = omega arith in
+    put_mid-paste (from + 3) k row zeros (replicate most_fanins 0) most_fanins (is ∙ ap (λ (n : ℕ). replicate {A = ℕ} n 0) few) (sym few) refl
+    ∙ sym (sets-eq (replicate most_fanins 0) row (from + 3) (omega arith))
+    ∙ ap (λ (i : ℕ). sets row i (replicate most_fanins 0)) there
 
 module _ (row : List ℕ) (v : ℕ) where
   -- a row without the block

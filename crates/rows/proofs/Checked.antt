@@ -1,5 +1,6 @@
 -- What `check` answers, by the fault that is found, and what is known afterwards.
 use Prim.Native.Nat.{ℕ}
+use Rattle.std.specs.Prelude.{Result, Ok, Err}
 use mathlib.Core.Path.{◌≡◌, refl, sym, ◌∙◌, ap}
 use mathlib.Core.Bool.{cond}
 use mathlib.Core.List.{List}
@@ -13,12 +14,9 @@ use Rattle.texts.specs.Reading.{Reading, refused, network, reading}
 use Rattle.texts.specs.Spelling.{join}
 use Rattle.texts.proofs.AcceptedNetwork.{accepted_well_formed, accepted_within_ceilings, accepted_not_heavy}
 use Rattle.rows.specs.declared.Header.{Header}
-use Rattle.rows.specs.declared.Read.{Read}
-use Rattle.rows.specs.declared.Fault.{Fault}
-use Rattle.rows.specs.declared.Fault.TheVariants.{None, Found}
 use Rattle.rows.specs.Row.{too_short, network_in, header_of}
 use Rattle.rows.specs.Spelling.{row_lines, spell, row_answer}
-use Rattle.rows.specs.Read.{shown, checked, refusal_in}
+use Rattle.rows.specs.Read.{shown, checked}
 use Rattle.rows.specs.steps.RowCheck.{settled, row_fault, unless_fault, row_check}
 use Rattle.rows.specs.steps.Holds.{Holds}
 use Rattle.rows.proofs.Holds.{InRange, network_size}
@@ -30,16 +28,16 @@ header_in h row = rw (network_size h row) (unfold network_in in refl)
 
 -- the answer by the fault
 
-module _ (h : Header) (row : List ℕ) (fit : InRange row) {f : Fault} (is : f ≡ row_fault (settled h) row) where
+module _ (h : Header) (row : List ℕ) (fit : InRange row) {f : Result (Unit {0}) Refusal} (is : f ≡ row_fault (settled h) row) where
   shown_check : shown (unless_fault f (network (network_in h row))) ≡ checked h row
   unfolding checked row_check
   shown_check = rw is (ap shown (sym (row_answer_check h row fit)))
 
-  pub checked_network : f ≡ None → Read.Network (settled h) ≡ checked h row
+  pub checked_network : f ≡ Ok (tt {0}) → Ok (settled h) ≡ checked h row
   unfolding shown unless_fault
-  checked_network e = sym (ap {B = Read} Read.Network (header_in h row)) ∙ (rw e at shown_check)
+  checked_network e = sym (ap {B = Result Header Refusal} Ok (header_in h row)) ∙ (rw e at shown_check)
 
-  pub checked_refused : {r : Refusal} → f ≡ Found r → Read.Refused r ≡ checked h row
+  pub checked_refused : {r : Refusal} → f ≡ Err r → Err r ≡ checked h row
   unfolding shown unless_fault
   checked_refused e = rw e at shown_check
 
@@ -101,27 +99,26 @@ settled_known h row fit n e =
       lines = lines_settled h row;
     }
 
-shown_network : (r : Reading) {k : Header} → Read.Network k ≡ shown r → (n : Network) × (r ≡ network n) × (k ≡ header_of n)
+shown_network : (r : Reading) {k : Header} → Ok k ≡ shown r → (n : Network) × (r ≡ network n) × (k ≡ header_of n)
 unfolding shown
 shown_network (refused f) e = never cc
 shown_network (network n) e = (n, refl, cc)
 
-pub check_network : (h : Header) (row : List ℕ) → InRange row → {r : Read} {k : Header}
-    → r ≡ checked h row → r ≡ Read.Network k → Known h k row
+pub check_network : (h : Header) (row : List ℕ) → InRange row → {r : Result Header Refusal} {k : Header}
+    → r ≡ checked h row → r ≡ Ok k → Known h k row
 unfolding checked
 check_network h row fit p q =
     let (n, e, is) = shown_network (row_answer h row) (sym q ∙ p) in
     let settles = is ∙ ap header_of (row_answered h row fit n e).same ∙ header_in h row in
     rw settles (settled_known h row fit n e)
 
-shown_refused : (r : Reading) {f : Refusal} → Read.Refused f ≡ shown r → r ≡ refused f
+shown_refused : (r : Reading) {f : Refusal} → Err f ≡ shown r → r ≡ refused f
 unfolding shown
 shown_refused (refused f) e = cc
 shown_refused (network n) e = never cc
 
--- the other way out of a `let .. else` on the answer
-pub check_else : (h : Header) (row : List ℕ) (r : Read) → r ≡ checked h row → ((k : Header) → r ≡ Read.Network k → ⊥)
-    → row_answer h row ≡ refused (refusal_in r)
+-- a refusal answered is the row's
+pub check_refused : (h : Header) (row : List ℕ) {r : Result Header Refusal} {f : Refusal} → r ≡ checked h row → r ≡ Err f
+    → row_answer h row ≡ refused f
 unfolding checked
-check_else h row (Read.Network k) p other = absurd (other k refl)
-check_else h row (Read.Refused f) p other = shown_refused (row_answer h row) p
+check_refused h row p q = shown_refused (row_answer h row) (sym q ∙ p)

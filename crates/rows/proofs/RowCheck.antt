@@ -1,5 +1,6 @@
 -- What a row answers, found without spelling it.
 use Prim.Native.Nat.{ℕ, zero, suc, ◌+◌, ◌*◌, ◌≤◌, ◌<◌}
+use Rattle.std.specs.Prelude.{Result, Ok, Err}
 use mathlib.Core.Path.{◌≡◌, refl, sym, ◌∙◌, ap}
 use mathlib.Core.Logic.{⊎_elim}
 use mathlib.Core.Bool.{Bool, true, false, cond, not}
@@ -28,8 +29,6 @@ use Rattle.texts.specs.Spelling.{header_bytes, gate_bytes, end_bytes, join}
 use Rattle.texts.proofs.Lines.{lines_spelled}
 use Rattle.texts.proofs.Accepted.{join_framed}
 use Rattle.rows.specs.declared.Header.{Header}
-use Rattle.rows.specs.declared.Fault.{Fault}
-use Rattle.rows.specs.declared.Fault.TheVariants.{None, Found}
 use Rattle.rows.specs.Row.{places, too_short, weight_in, count_in, fanins_in, gate_in, network_in}
 use Rattle.rows.specs.Spelling.{spell, row_answer}
 use Rattle.rows.specs.steps.RowCheck.{settled, fault_if, told, first_of, line_of_gate, gate_length, gates_length, too_long, gate_number, gate_fault, first_fault, heavy_fault, first_heavy_fault, text_fault, row_fault, unless_fault, row_check}
@@ -39,10 +38,10 @@ use Rattle.rows.proofs.Spelled.{spelled, header_faultless, header_capacity_of, h
 
 -- faults, one after the other
 
-then_faults : (f g : Fault) (r : Reading) → unless_fault (first_of f g) r ≡ unless_fault f (unless_fault g r)
+then_faults : (f g : Result (Unit {0}) Refusal) (r : Reading) → unless_fault (first_of f g) r ≡ unless_fault f (unless_fault g r)
 unfolding unless_fault first_of
-then_faults None g r = refl
-then_faults (Found f) g r = refl
+then_faults (Ok u) g r = refl
+then_faults (Err f) g r = refl
 
 unless_test : (test : Bool) (f : Refusal) (r : Reading) → unless_fault (fault_if test f) r ≡ cond test (refused f) r
 unfolding unless_fault fault_if
@@ -73,7 +72,7 @@ unless_told four line l r = refl
 unless_told five line l r = refl
 unless_told six line l r = refl
 
-in_order : (long none_there : Bool) (f h : Fault) (r : Reading)
+in_order : (long none_there : Bool) (f h : Result (Unit {0}) Refusal) (r : Reading)
     → unless_fault (first_of (fault_if long (at_no_line 1)) (first_of f (first_of (fault_if none_there (at_line 8 2)) h))) r
     ≡ cond long (refused (at_no_line 1)) (unless_fault f (cond none_there (refused (at_line 8 2)) (unless_fault h r)))
 in_order long none_there f h r = simp (then_faults, unless_test)
@@ -252,7 +251,7 @@ module _ (row : List ℕ) (fit : InRange row) where
 
 -- 9
 
-heavy_here : (test : Bool) (at line : ℕ) (o : Option ℕ) (f : Fault) (n : Network) → at ≡ line → told_heavy o n ≡ unless_fault f (network n)
+heavy_here : (test : Bool) (at line : ℕ) (o : Option ℕ) (f : Result (Unit {0}) Refusal) (n : Network) → at ≡ line → told_heavy o n ≡ unless_fault f (network n)
     → told_heavy (cond test (some at) o) n ≡ unless_fault (first_of (fault_if test (at_line 9 line)) f) (network n)
 unfolding told_heavy unless_fault first_of fault_if
 heavy_here true at line o f n e h = rw e
@@ -267,10 +266,10 @@ heavy_row capacity row v (suc k) at n e =
     (first_heavy_fault capacity row (suc v) k) n e
     (heavy_row capacity row (suc v) k (suc at) n (omega arith))
 
-weigh_faults : (f : Fault) (r : Reading) → weigh (unless_fault f r) ≡ unless_fault f (weigh r)
+weigh_faults : (f : Result (Unit {0}) Refusal) (r : Reading) → weigh (unless_fault f r) ≡ unless_fault f (weigh r)
 unfolding weigh unless_fault
-weigh_faults None r = refl
-weigh_faults (Found f) r = refl
+weigh_faults (Ok u) r = refl
+weigh_faults (Err f) r = refl
 
 weigh_ended : (gates : ℕ) (n : Network)
     → weigh (ended gates n) ≡ cond (eqb gates 0) (refused (at_line 8 2)) (told_heavy (first_heavy n.capacity 2 n.gates) n)
@@ -338,23 +337,23 @@ module _ (h : Header) (row : List ℕ) where
 
 -- a row that answers a network has no fault
 
-both_none : (f g : Fault) → first_of f g ≡ None → (f ≡ None) × (g ≡ None)
+both_none : (f g : Result (Unit {0}) Refusal) → first_of f g ≡ Ok (tt {0}) → (f ≡ Ok (tt {0})) × (g ≡ Ok (tt {0}))
 unfolding first_of
-both_none None g e = (refl, e)
-both_none (Found r) g e = never cc
+both_none (Ok u) g e = (refl, e)
+both_none (Err r) g e = never cc
 
-faultless : (f : Fault) (m n : Network) → unless_fault f (network m) ≡ network n → (f ≡ None) × (m ≡ n)
+faultless : (f : Result (Unit {0}) Refusal) (m n : Network) → unless_fault f (network m) ≡ network n → (f ≡ Ok (tt {0})) × (m ≡ n)
 unfolding unless_fault
-faultless None m n e = (refl, cc)
-faultless (Found r) m n e = never cc
+faultless (Ok u) m n e = (refl, cc)
+faultless (Err r) m n e = never cc
 
-untold : (o : Option ℕ) (line : ℕ) → told o line ≡ None → o ≡ none
+untold : (o : Option ℕ) (line : ℕ) → told o line ≡ Ok (tt {0}) → o ≡ none
 unfolding told
 untold none line e = refl
 untold (some number) line e = never cc
 
 -- gates without fault have at most eight fan-ins
-few_counted : (row : List ℕ) (v k : ℕ) → first_fault row v k ≡ None → (u : ℕ) → v ≤ u → u < v + k → count_in row u ≤ most_fanins
+few_counted : (row : List ℕ) (v k : ℕ) → first_fault row v k ≡ Ok (tt {0}) → (u : ℕ) → v ≤ u → u < v + k → count_in row u ≤ most_fanins
 unfolding first_fault
 few_counted row v zero e u l h = absurd (omega arith)
 few_counted row v (suc k) e u l h =
@@ -367,7 +366,7 @@ few_counted row v (suc k) e u l h =
     (λ (d : u ≡ v → ⊥). few_counted row (suc v) k s.1 u (omega arith) (omega arith))
     (same_or_not u v)
 
-few_read : (h : Header) (row : List ℕ) → text_fault h row ≡ None → (v : ℕ) → v < h.gates → count_in row v ≤ most_fanins
+few_read : (h : Header) (row : List ℕ) → text_fault h row ≡ Ok (tt {0}) → (v : ℕ) → v < h.gates → count_in row v ≤ most_fanins
 unfolding text_fault
 few_read h row e v l =
     let of_gates = (both_none (first_fault row 0 h.gates) _ (both_none (fault_if (too_long h.gates row) (at_no_line 1)) _ e).1).0 in

@@ -1,6 +1,7 @@
 -- `RowNumbers` of specs/Exactly.antt: a row is refused by what its check finds, which is 10, 1, what the line of a gate can be given, 8
 -- or 9, each told without a column.
 use Prim.Native.Nat.{ℕ, zero, suc}
+use Rattle.std.specs.Prelude.{Result, Ok, Err}
 use mathlib.Core.Path.{◌≡◌, refl, sym, ◌∙◌}
 use mathlib.Core.Bool.{Bool, true, false}
 use mathlib.Core.List.{List, [], ◌∷◌}
@@ -13,8 +14,6 @@ use Rattle.frames.specs.Refusal.{at_line}
 use Rattle.frames.proofs.Tests.{never}
 use Rattle.texts.specs.Reading.{refused, network}
 use Rattle.rows.specs.declared.Header.{Header}
-use Rattle.rows.specs.declared.Fault.{Fault}
-use Rattle.rows.specs.declared.Fault.TheVariants.{None, Found}
 use Rattle.rows.specs.Row.{too_short, weight_in, count_in, fanins_in, network_in}
 use Rattle.rows.specs.Exactly.{RowNumbers}
 use Rattle.rows.specs.steps.RowCheck.{settled, fault_if, told, first_of, line_of_gate, too_long, gate_fault, first_fault, heavy_fault, first_heavy_fault, text_fault, row_fault, unless_fault, row_check}
@@ -27,11 +26,11 @@ numbers = 1 ∷ 4 ∷ 5 ∷ 6 ∷ 8 ∷ 9 ∷ 10 ∷ []
 abbrev RowRefusal : Refusal → Type 0
 RowRefusal f = (f.number ∈ numbers) × (f.column ≡ 0)
 
-data RowFault : Fault → Type 0 where
-  nothing : RowFault None
-  found : {f : Refusal} → RowRefusal f → RowFault (Found f)
+data RowFault : Result (Unit {0}) Refusal → Type 0 where
+  nothing : RowFault (Ok (tt {0}))
+  found : {f : Refusal} → RowRefusal f → RowFault (Err f)
 
-one : (k line : ℕ) → member k numbers ≡ true → RowFault (Found (at_line k line))
+one : (k line : ℕ) → member k numbers ≡ true → RowFault (Err (at_line k line))
 one k line listed = found (member_true k numbers listed, refl)
 
 by_test : (test : Bool) (k line : ℕ) → member k numbers ≡ true → RowFault (fault_if test (at_line k line))
@@ -39,7 +38,7 @@ unfolding fault_if
 by_test true k line listed = one k line listed
 by_test false k line listed = nothing
 
-by_first : {f g : Fault} → RowFault f → RowFault g → RowFault (first_of f g)
+by_first : {f g : Result (Unit {0}) Refusal} → RowFault f → RowFault g → RowFault (first_of f g)
 unfolding first_of
 by_first nothing later = later
 by_first (found of) later = found of
@@ -77,6 +76,6 @@ pub row_numbers : RowNumbers
 unfolding row_check unless_fault
 row_numbers h row fit f e = by (of_row (settled h) row) (sym (row_answer_check h row fit) ∙ e)
   where
-    by : {g : Fault} → RowFault g → unless_fault g (network (network_in h row)) ≡ refused f → RowRefusal f
+    by : {g : Result (Unit {0}) Refusal} → RowFault g → unless_fault g (network (network_in h row)) ≡ refused f → RowRefusal f
     by nothing e = never cc
     by (found {f = g} of) e = let same : g ≡ f = cc in rw (← same) of

@@ -5,14 +5,12 @@ use mathlib.Core.List.{List, []}
 use Rattle.std.specs.Prelude.{Result, Ok, Err}
 use Rattle.frames.specs.declared.Refusal.{Refusal}
 use Rattle.rows.specs.declared.Header.{Header}
-use Rattle.rows.specs.declared.Read.{Read}
 use Rattle.rows.specs.declared.network.Network.{Network as Standing}
 use Rattle.rows.specs.Found.{NetworkFound}
 use Rattle.rows.specs.Read.{checked}
 use Rattle.units.specs.Units.{cells, ticks}
 use Rattle.units.specs.Outcome.{OneOutcome, OneContent}
 use Rattle.units.proofs.Unique.{same}
-use Rattle.rows.proofs.Read.refusal.Reads as read_refusal
 use Rattle.rows.proofs.too_short.Reads as too_short
 use Rattle.rows.proofs.weight.Reads as weight
 use Rattle.rows.proofs.delay.Reads as delay
@@ -24,9 +22,6 @@ use Rattle.rows.proofs.check.Reads as check
 use Rattle.rows.proofs.network.Network.find.Reads as network_find
 
 -- Passed by value, or lent by `&`: nothing of the arguments changes, and the result is the whole outcome.
-
-pub read_refusal_unique : OneOutcome read_refusal.Learnt (λ κs exit. tt {0})
-read_refusal_unique κs args r s exit exit' p q = (same p q, refl)
 
 pub too_short_unique : OneOutcome too_short.Learnt (λ κs exit. tt {0})
 too_short_unique κs args r s exit exit' p q = (same p q, refl)
@@ -58,18 +53,18 @@ put_fan_in_unique κs args r s exit exit' p q = (refl, same p q)
 
 -- The network found is the header that is answered and the row that was handed over.
 
-abbrev pub content : (r : Result Standing Refusal) → Read × List ℕ
-content (Ok n) = (Read.Network n.header, n.row.now)
-content (Err f) = (Read.Refused f, [])
+abbrev pub content : (r : Result Standing Refusal) → Result Header Refusal × List ℕ
+content (Ok n) = (Ok n.header, n.row.now)
+content (Err f) = (Err f, [])
 
-abbrev row_of : Read → List ℕ → List ℕ
-row_of (Read.Network h) row = row
-row_of (Read.Refused f) row = []
+abbrev row_of : Result Header Refusal → List ℕ → List ℕ
+row_of (Ok h) row = row
+row_of (Err f) row = []
 
 content_is : {h : Header} {row : List ℕ} (r : Result Standing Refusal) → NetworkFound h row r
     → content r ≡ (checked h row, row_of (checked h row) row)
-content_is {h} {row} (Ok n) p = ap (λ (x : List ℕ). (Read.Network n.header, x)) p.same ∙ ap (λ (a : Read). (a, row_of a row)) p.answer
-content_is {h} {row} (Err f) p = ap (λ (a : Read). (a, row_of a row)) p.answer
+content_is {h} {row} (Ok n) p = ap (λ (x : List ℕ). (Ok n.header, x)) p.same ∙ ap (λ (a : Result Header Refusal). (a, row_of a row)) p.answer
+content_is {h} {row} (Err f) p = ap (λ (a : Result Header Refusal). (a, row_of a row)) p.answer
 
 pub network_network_find_unique : OneContent network_find.Learnt (λ κs r. content r)
 network_network_find_unique κs args r s exit exit' p q = content_is r p ∙ sym (content_is s q)

@@ -3,7 +3,6 @@ use Rattle.std.specs.Prelude.{◌≡◌, Result, Ok, Err, IfOk, List, ℕ}
 use Rattle.model.specs.Network.{Network}
 use Rattle.frames.specs.declared.Refusal.{Refusal}
 use Rattle.rows.specs.declared.Header.{Header}
-use Rattle.rows.specs.declared.Read.{Read}
 use Rattle.rows.specs.declared.network.Network.{Network as Standing}
 use Rattle.rows.specs.Row.{network_in}
 use Rattle.rows.specs.Read.{checked}
@@ -13,9 +12,9 @@ abbrev pub network_of : Standing → Network
 network_of n = network_in n.header n.row.now
 
 -- the header alone
-abbrev pub header_found : Result Standing Refusal → Read
-header_found (Ok n) = Read.Network n.header
-header_found (Err f) = Read.Refused f
+abbrev pub header_found : Result Standing Refusal → Result Header Refusal
+header_found (Ok n) = Ok n.header
+header_found (Err f) = Err f
 
 -- [R5] What `check` answers, and the row that was handed over.
 pub record NetworkFound (h : Header) (row : List ℕ) (r : Result Standing Refusal) : Type 0 where

@@ -1,29 +1,23 @@
 -- What a text, or a network in its row, answers, and what reading a text leaves in the row.
-use Rattle.std.specs.Prelude.{ℕ, cond, List}
+use Rattle.std.specs.Prelude.{ℕ, cond, List, Result, Ok, Err}
 use Rattle.model.specs.Network.{size}
 use Rattle.frames.specs.declared.Refusal.{Refusal}
 use Rattle.frames.specs.Refusal.{no_room}
 use Rattle.texts.specs.Reading.{Reading, refused, network, reading}
 use Rattle.rows.specs.declared.Header.{Header}
-use Rattle.rows.specs.declared.Read.{Read}
 use Rattle.rows.specs.Row.{too_short, header_of, fill}
 use Rattle.rows.specs.Spelling.{row_answer}
 
 -- a network's header, or the refusal
-unfoldable pub shown : Reading → Read
+unfoldable pub shown : Reading → Result Header Refusal
 unfolding size
-shown (refused f) = Read.Refused f
-shown (network n) = Read.Network (header_of n)
+shown (refused f) = Err f
+shown (network n) = Ok (header_of n)
 
 -- What `check` answers.
-unfoldable pub checked : Header → List ℕ → Read
+unfoldable pub checked : Header → List ℕ → Result Header Refusal
 unfolding shown row_answer
 checked h row = shown (row_answer h row)
-
--- The refusal of an answer that refuses. It is asked of no other; of one that is a network it is 10.
-abbrev pub refusal_in : Read → Refusal
-refusal_in (Read.Network h) = no_room
-refusal_in (Read.Refused f) = f
 
 -- [O5] what reading a text answers with this row lent: 10 comes last
 unfoldable pub in_room : List ℕ → Reading → Reading

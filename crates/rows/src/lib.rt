@@ -6,9 +6,8 @@ ghost use Rattle.std.specs.Prelude.{◌≡◌, ◌&&◌, ◌+◌, ◌^◌, ◌<�
 ghost use Rattle.model.specs.Network.{empty};
 ghost use Rattle.frames.specs.Refusal.{at_line};
 ghost use Rattle.frames.specs.Table.{rising_from};
-ghost use Rattle.rows.specs.declared.Fault.TheVariants.{Found};
 ghost use Rattle.rows.specs.Row.{places, too_short, block, weight_in, delay_in, count_in, fanins_in, gate_put, fanin_put};
-ghost use Rattle.rows.specs.Read.{checked, refusal_in};
+ghost use Rattle.rows.specs.Read.{checked};
 ghost use Rattle.rows.specs.steps.RowCheck.{
   settled,
   gate_length,
@@ -25,7 +24,7 @@ pub mod network;
 use frames::{
     MOST_TEXT, NO_GATES, ONE_TOO_MANY, Refusal, TOO_HEAVY, TOO_LONG, UNORDERED, WRONG_LENGTH,
 };
-use units::{Cells, Counted, FanInCount, GateNumber, Numbered, Ticks};
+use units::{Cells, FanInCount, GateNumber, Ticks};
 
 // What is said once of a network: the capacity M, the hop delay D and the number of gates. M and D above their ceilings count
 // as the ceilings.
@@ -34,25 +33,6 @@ pub struct Header {
     pub capacity: Cells,
     pub hop: Ticks,
     pub gates: usize,
-}
-
-// What a text, or a header and a row handed over, answer: the header of the network that stands in the row, or a refusal.
-#[derive(Clone, Copy)]
-pub enum Read {
-    Network(Header),
-    Refused(Refusal),
-}
-
-impl Read {
-    // The refusal of an answer that refuses; it is asked of no other.
-    pub fn refusal(self) -> Refusal
-        ensures { result ≡ refusal_in self }
-    {
-        let Read::Refused(refusal) = self else {
-            return Refusal::no_room();
-        };
-        refusal
-    }
 }
 
 // Where in its block a gate has its weight.
@@ -93,21 +73,21 @@ fn place(row: &[u16], v: usize, k: usize) -> u16
 pub fn weight(row: &[u16], v: usize) -> Cells
     ensures { result.0 ≡ weight_in row.now v }
 {
-    Cells(place(row, v, WEIGHT) as u64)
+    Cells(u64::from(place(row, v, WEIGHT)))
 }
 
 // The delay of gate v; 0 where the row has no block for it.
 pub fn delay(row: &[u16], v: usize) -> Ticks
     ensures { result.0 ≡ delay_in row.now v }
 {
-    Ticks(place(row, v, DELAY) as u64)
+    Ticks(u64::from(place(row, v, DELAY)))
 }
 
 // The fan-in count of gate v, as its place has it; 0 where the row has no block for it.
 fn count(row: &[u16], v: usize) -> usize
     ensures { result ≡ count_in row.now v }
 {
-    place(row, v, COUNT) as usize
+    usize::from(place(row, v, COUNT))
 }
 
 // The fan-ins of gate v: no more than eight, and none where the row has no block for it.
@@ -117,15 +97,9 @@ pub fn fan_ins(row: &[u16], v: usize) -> &[u16]
     if row.len() / PLACES <= v {
         return &row[..0];
     }
-    let counted = count(row, v);
-    let many = if counted <= FanInCount::MOST {
-        counted
-    } else {
-        FanInCount::MOST
-    };
+    let many = count(row, v).min(FanInCount::MOST);
     let from = PLACES * v + FAN_INS;
-    let to = from + many;
-    &row[from..to]
+    &row[from..from + many]
 }
 
 // Whether gate v is a primary input: it has no fan-ins.
@@ -146,10 +120,8 @@ pub fn put_gate(row: &mut [u16], v: usize, weight: Cells, delay: Ticks, count: F
     let from = PLACES * v;
     row[from + WEIGHT] = weight.weight_place();
     row[from + DELAY] = delay.delay_place();
-    row[from + COUNT] = count.count_place() as u16;
-    for i in 0..FanInCount::MOST {
-        row[from + FAN_INS + i] = 0;
-    }
+    row[from + COUNT] = u16::from(count.count_place());
+    row[from + FAN_INS..from + PLACES].fill(0);
 }
 
 // The i-th fan-in of gate v put into its block. A row without the block stays as it is, and so does a block without a place for it.
@@ -174,13 +146,6 @@ const FAN_IN: usize = 4;
 // The line of gate 0: the header has the first.
 const FIRST_GATE: usize = 2;
 
-// What a check finds: nothing, or a refusal.
-#[derive(Clone, Copy)]
-enum Fault {
-    None,
-    Found(Refusal),
-}
-
 // The bytes of the line of gate v: no more than eight fan-ins are spelled.
 fn gate_length(row: &[u16], v: usize) -> usize
     ensures { result ≡ gate_length row.now v }
@@ -193,12 +158,13 @@ fn too_long(gates: usize, row: &[u16]) -> bool
     ensures { result ≡ too_long gates row.now }
 {
     let mut bytes = OUTER_LINES;
-    let mut v = 0;
-    while v < gates && bytes <= MOST_TEXT {
+    for v in 0..gates {
         bytes += gate_length(row, v);
-        v += 1;
+        if MOST_TEXT < bytes {
+            return true;
+        }
     }
-    MOST_TEXT < bytes
+    false
 }
 
 // Whether a fan-in rises above those before it, and is below its gate.
@@ -213,103 +179,84 @@ fn rising(fanins: &[u16], gate: usize) -> bool
     ensures { result ≡ rising_from 0 gate fanins.now }
 {
     let mut least = 0;
-    let mut i = 0;
-    while i < fanins.len() && in_place(fanins[i] as usize, least, gate) {
-        least = fanins[i] as usize + 1;
-        i += 1;
+    for &fanin in fanins {
+        let fanin = usize::from(fanin);
+        if !in_place(fanin, least, gate) {
+            return false;
+        }
+        least = fanin + 1;
     }
-    i == fanins.len()
+    true
 }
 
 // A refusal at the line of a gate.
-fn fault_at(number: u8, gate: usize) -> Fault
+fn at_gate(number: u8, gate: usize) -> Refusal
     requires { gate + 2 < 2 ^ 64 }
-    ensures { result ≡ Found (at_line number (gate + 2)) }
+    ensures { result ≡ at_line number (gate + 2) }
 {
-    Fault::Found(Refusal::at_line(number, gate + FIRST_GATE))
+    Refusal::at_line(number, gate + FIRST_GATE)
 }
 
 // 4, 5 and 6 of one gate, at its line.
-fn gate_fault(row: &[u16], gate: usize) -> Fault
+fn gate_fault(row: &[u16], gate: usize) -> Result<(), Refusal>
     requires { gate + 2 < 2 ^ 64 }
     ensures { result ≡ gate_fault row.now gate }
 {
-    let Counted::Made(_) = FanInCount::new(count(row, gate)) else {
-        return fault_at(WRONG_LENGTH, gate);
-    };
-    let Numbered::Made(_) = GateNumber::new(gate) else {
-        return fault_at(ONE_TOO_MANY, gate);
-    };
-    if rising(fan_ins(row, gate), gate) {
-        Fault::None
-    } else {
-        fault_at(UNORDERED, gate)
+    FanInCount::new(count(row, gate)).ok_or(at_gate(WRONG_LENGTH, gate))?;
+    GateNumber::new(gate).ok_or(at_gate(ONE_TOO_MANY, gate))?;
+    if !rising(fan_ins(row, gate), gate) {
+        return Err(at_gate(UNORDERED, gate));
     }
+    Ok(())
 }
 
 // 4, 5 and 6 of the first gate that has one.
-fn first_fault(gates: usize, row: &[u16]) -> Fault
+fn first_fault(gates: usize, row: &[u16]) -> Result<(), Refusal>
     requires { gates + 2 < 2 ^ 64 }
     ensures { result ≡ first_fault row.now 0 gates }
 {
-    let mut v = 0;
-    while v < gates {
-        let fault = gate_fault(row, v);
-        let Fault::None = fault else {
-            return fault;
-        };
-        v += 1;
+    for v in 0..gates {
+        gate_fault(row, v)?;
     }
-    Fault::None
+    Ok(())
 }
 
 // 9 of one gate, at its line.
-fn heavy_fault(gate: usize, weight: Cells, capacity: Cells) -> Fault
+fn heavy_fault(gate: usize, weight: Cells, capacity: Cells) -> Result<(), Refusal>
     requires { gate + 2 < 2 ^ 64 }
     ensures { result ≡ heavy_fault gate weight.0 capacity.0 }
 {
-    if weight.within(capacity) {
-        Fault::None
-    } else {
-        fault_at(TOO_HEAVY, gate)
+    if !weight.within(capacity) {
+        return Err(at_gate(TOO_HEAVY, gate));
     }
+    Ok(())
 }
 
 // 9 of the first gate that is heavier than M.
-fn first_heavy(header: Header, row: &[u16]) -> Fault
+fn first_heavy(header: Header, row: &[u16]) -> Result<(), Refusal>
     requires { header.gates + 2 < 2 ^ 64 }
     ensures { result ≡ first_heavy_fault header.capacity.0 row.now 0 header.gates }
 {
-    let capacity = header.capacity;
-    let gates = header.gates;
-    let mut v = 0;
-    while v < gates {
-        let fault = heavy_fault(v, weight(row, v), capacity);
-        let Fault::None = fault else {
-            return fault;
-        };
-        v += 1;
+    for v in 0..header.gates {
+        heavy_fault(v, weight(row, v), header.capacity)?;
     }
-    Fault::None
+    Ok(())
 }
 
 // The fault that decides: 10, 1, those of the gates, 8, 9.
-fn row_fault(header: Header, row: &[u16]) -> Fault
+fn row_fault(header: Header, row: &[u16]) -> Result<(), Refusal>
     ensures { result ≡ row_fault header row.now }
 {
     let gates = header.gates;
     if too_short(gates, row) {
-        return Fault::Found(Refusal::no_room());
+        return Err(Refusal::no_room());
     }
     if too_long(gates, row) {
-        return Fault::Found(Refusal::at_no_line(TOO_LONG));
+        return Err(Refusal::at_no_line(TOO_LONG));
     }
-    let fault = first_fault(gates, row);
-    let Fault::None = fault else {
-        return fault;
-    };
+    first_fault(gates, row)?;
     if gates == 0 {
-        return fault_at(NO_GATES, 0);
+        return Err(at_gate(NO_GATES, 0));
     }
     first_heavy(header, row)
 }
@@ -319,25 +266,20 @@ impl Header {
     fn settled(self) -> Header
         ensures { result ≡ settled self }
     {
-        let capacity = self.capacity;
-        let hop = self.hop;
         Header {
-            capacity: Cells(capacity.capacity_place() as u64),
-            hop: Ticks(hop.delay_place() as u64),
+            capacity: Cells(u64::from(self.capacity.capacity_place())),
+            hop: Ticks(u64::from(self.hop.delay_place())),
             gates: self.gates,
         }
     }
 }
 
-// What a header and a row handed over answer: what the text that they spell does [R5], and 10 where the row is too short for the gates
-// that the header claims.
-pub fn check(header: Header, row: &[u16]) -> Read
+// What a header and a row handed over answer: the header of the network that stands in the row, or what refuses the text that they
+// spell [R5], and 10 where the row is too short for the gates that the header claims.
+pub fn check(header: Header, row: &[u16]) -> Result<Header, Refusal>
     ensures { result ≡ checked header row.now }
 {
     let known = header.settled();
-    let fault = row_fault(known, row);
-    match fault {
-        Fault::None => Read::Network(known),
-        Fault::Found(refusal) => Read::Refused(refusal),
-    }
+    row_fault(known, row)?;
+    Ok(known)
 }

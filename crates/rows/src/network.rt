@@ -2,7 +2,7 @@
 // again.
 ghost use Rattle.rows.specs.steps.Holds.{Holds};
 
-use crate::{Header, Read};
+use crate::Header;
 use frames::Refusal;
 
 // A header within the ceilings, and a row in which its network stands.
@@ -20,9 +20,7 @@ impl<'a> Network<'a> {
     pub fn find(header: Header, row: &'a [u16]) -> Result<Network<'a>, Refusal>
         ensures { NetworkFound header row.now result }
     {
-        match crate::check(header, row) {
-            Read::Network(header) => Ok(Network { header, row }),
-            Read::Refused(refusal) => Err(refusal),
-        }
+        let header = crate::check(header, row)?;
+        Ok(Network { header, row })
     }
 }

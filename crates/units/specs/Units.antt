@@ -1,18 +1,11 @@
 -- What each function of `units` answers. The ceilings are the model's, so that the code's constants, which the makers
 -- test against, cannot drift from them. No definition takes both an area and a time [W4].
-use Rattle.std.specs.Prelude.{ℕ, ◌+◌, ◌-◌, ◌^◌, min, max, Bool, cond, leb, ltb}
+use Rattle.std.specs.Prelude.{ℕ, ◌+◌, ◌-◌, ◌^◌, min, max, Bool, cond, leb, ltb, Option, Some, None}
 use Rattle.model.specs.Ceilings.{most_gates, most_fanins, most_weight, most_delay}
 use Rattle.units.specs.declared.Cells.{Cells}
 use Rattle.units.specs.declared.Ticks.{Ticks}
+use Rattle.units.specs.declared.GateNumber.{GateNumber}
 use Rattle.units.specs.declared.FanInCount.{FanInCount}
-use Rattle.units.specs.declared.Weighed.{Weighed}
-use Rattle.units.specs.declared.Weighed.TheVariants as weight
-use Rattle.units.specs.declared.Delayed.{Delayed}
-use Rattle.units.specs.declared.Delayed.TheVariants as delay
-use Rattle.units.specs.declared.Numbered.{Numbered}
-use Rattle.units.specs.declared.Numbered.TheVariants as number
-use Rattle.units.specs.declared.Counted.{Counted}
-use Rattle.units.specs.declared.Counted.TheVariants as count
 
 -- So many cells; so many ticks.
 abbrev pub cells : ℕ → Cells
@@ -23,19 +16,19 @@ ticks n = record { 0 = n }
 
 -- A maker's answer: the number made where it is within its ceiling, and otherwise that it is above it.
 -- [B3] a weight, and a delay
-abbrev pub weighed : ℕ → Weighed
-weighed x = cond (leb x most_weight) (weight.Made (cells x)) weight.Above
+abbrev pub weighed : ℕ → Option Cells
+weighed x = cond (leb x most_weight) (Some (cells x)) None
 
-abbrev pub delayed : ℕ → Delayed
-delayed x = cond (leb x most_delay) (delay.Made (ticks x)) delay.Above
+abbrev pub delayed : ℕ → Option Ticks
+delayed x = cond (leb x most_delay) (Some (ticks x)) None
 
 -- [B1] gate numbers count from 0, so they are those below the ceiling
-abbrev pub numbered : ℕ → Numbered
-numbered x = cond (ltb x most_gates) (number.Made (record { 0 = x })) number.Above
+abbrev pub numbered : ℕ → Option GateNumber
+numbered x = cond (ltb x most_gates) (Some (record { 0 = x })) None
 
 -- [B2] a number of fan-ins
-abbrev pub counted : ℕ → Counted
-counted x = cond (leb x most_fanins) (count.Made (record { 0 = x })) count.Above
+abbrev pub counted : ℕ → Option FanInCount
+counted x = cond (leb x most_fanins) (Some (record { 0 = x })) None
 
 -- A number as so many bits hold it: what is above the largest number of them is that largest.
 abbrev pub held : ℕ → ℕ → ℕ

@@ -10,8 +10,6 @@ ghost use Rattle.units.specs.Units.{
   delayed,
   numbered,
   counted,
-  held,
-  held_sum,
   area_sum,
   time_sum,
   larger_of,
@@ -24,150 +22,102 @@ ghost use Rattle.units.specs.Units.{
   count_place,
 };
 
-// a + b, or the largest number that 64 bits hold where the sum is above it.
-fn held_sum(a: u64, b: u64) -> u64
-    ensures { result ≡ held_sum a b }
-{
-    if b <= u64::MAX - a { a + b } else { u64::MAX }
-}
-
-// x as 8, 16 or 32 bits hold it: what is above the largest number of them is that largest.
-fn held_8(x: usize) -> u8
-    ensures { result ≡ held 8 x }
-{
-    if x <= 255 { x as u8 } else { u8::MAX }
-}
-
-fn held_16(x: u64) -> u16
-    ensures { result ≡ held 16 x }
-{
-    if x <= 65_535 { x as u16 } else { u16::MAX }
-}
-
-fn held_32(x: u64) -> u32
-    ensures { result ≡ held 32 x }
-{
-    if x <= 4_294_967_295 {
-        x as u32
-    } else {
-        u32::MAX
-    }
-}
-
 // An area, in cells.
-#[derive(Clone, Copy)]
+#[derive(Clone, Copy, PartialEq, Eq, PartialOrd, Ord)]
 pub struct Cells(pub u64);
-
-// What making a weight gives.
-#[derive(Clone, Copy)]
-pub enum Weighed {
-    Made(Cells),
-    Above,
-}
 
 impl Cells {
     // What the two bytes of a gate frame's weight can say.
     pub const MOST_WEIGHT: u64 = 65_535;
 
     // The weight x, unless it is above the ceiling.
-    pub fn weight(x: u64) -> Weighed
+    pub fn weight(x: u64) -> Option<Cells>
         ensures { result ≡ weighed x }
     {
-        if x <= Self::MOST_WEIGHT {
-            Weighed::Made(Cells(x))
-        } else {
-            Weighed::Above
-        }
+        (x <= Self::MOST_WEIGHT).then_some(Cells(x))
     }
 
     // Both areas together, held at the largest number of 64 bits.
     pub fn plus(self, other: Cells) -> Cells
         ensures { result.0 ≡ area_sum self other }
     {
-        Cells(held_sum(self.0, other.0))
+        Cells(self.0.saturating_add(other.0))
     }
 
     // Whether this area is at most that capacity.
     pub fn within(self, capacity: Cells) -> bool
         ensures { result ≡ fits self capacity }
     {
-        self.0 <= capacity.0
+        self <= capacity
     }
 
     // This area as a place of a weight row holds it.
     pub fn weight_place(self) -> u16
         ensures { result ≡ weight_place self }
     {
-        held_16(self.0)
+        let Cells(cells) = self;
+        u16::try_from(cells).unwrap_or(u16::MAX)
     }
 
     // This area as the 32 bits of a capacity hold it.
     pub fn capacity_place(self) -> u32
         ensures { result ≡ capacity_place self }
     {
-        held_32(self.0)
+        let Cells(cells) = self;
+        u32::try_from(cells).unwrap_or(u32::MAX)
     }
 }
 
 // A time, in ticks.
-#[derive(Clone, Copy)]
+#[derive(Clone, Copy, PartialEq, Eq, PartialOrd, Ord)]
 pub struct Ticks(pub u64);
-
-// What making a delay gives.
-#[derive(Clone, Copy)]
-pub enum Delayed {
-    Made(Ticks),
-    Above,
-}
 
 impl Ticks {
     // What the two bytes of a gate frame's delay can say.
     pub const MOST_DELAY: u64 = 65_535;
 
     // The delay x, unless it is above the ceiling.
-    pub fn delay(x: u64) -> Delayed
+    pub fn delay(x: u64) -> Option<Ticks>
         ensures { result ≡ delayed x }
     {
-        if x <= Self::MOST_DELAY {
-            Delayed::Made(Ticks(x))
-        } else {
-            Delayed::Above
-        }
+        (x <= Self::MOST_DELAY).then_some(Ticks(x))
     }
 
     // One time after the other, held at the largest number of 64 bits.
     pub fn plus(self, other: Ticks) -> Ticks
         ensures { result.0 ≡ time_sum self other }
     {
-        Ticks(held_sum(self.0, other.0))
+        Ticks(self.0.saturating_add(other.0))
     }
 
     // The larger of two times.
     pub fn larger(self, other: Ticks) -> Ticks
         ensures { result.0 ≡ larger_of self other }
     {
-        if self.0 <= other.0 { other } else { self }
+        self.max(other)
     }
 
     // Whether this time is larger than the other, and not equal to it.
     pub fn above(self, other: Ticks) -> bool
         ensures { result ≡ exceeds self other }
     {
-        other.0 < self.0
+        other < self
     }
 
     // This time as a place of a delay row, or the 16 bits of a hop delay, hold it.
     pub fn delay_place(self) -> u16
         ensures { result ≡ delay_place self }
     {
-        held_16(self.0)
+        let Ticks(ticks) = self;
+        u16::try_from(ticks).unwrap_or(u16::MAX)
     }
 
     // This time as a place of a row of labels, or the 32 bits of an output delay, hold it.
     pub fn label_place(self) -> u32
         ensures { result ≡ label_place self }
     {
-        held_32(self.0)
+        let Ticks(ticks) = self;
+        u32::try_from(ticks).unwrap_or(u32::MAX)
     }
 }
 
@@ -175,26 +125,15 @@ impl Ticks {
 #[derive(Clone, Copy)]
 pub struct GateNumber(pub usize);
 
-// What making a gate number gives.
-#[derive(Clone, Copy)]
-pub enum Numbered {
-    Made(GateNumber),
-    Above,
-}
-
 impl GateNumber {
     // A network has at most so many gates [B1], and their numbers are those below it.
     pub const MOST_GATES: usize = 512;
 
     // The gate number x, unless no network has a gate of that number.
-    pub fn new(x: usize) -> Numbered
+    pub fn new(x: usize) -> Option<GateNumber>
         ensures { result ≡ numbered x }
     {
-        if x < Self::MOST_GATES {
-            Numbered::Made(GateNumber(x))
-        } else {
-            Numbered::Above
-        }
+        (x < Self::MOST_GATES).then_some(GateNumber(x))
     }
 }
 
@@ -202,32 +141,21 @@ impl GateNumber {
 #[derive(Clone, Copy)]
 pub struct FanInCount(pub usize);
 
-// What making a fan-in count gives.
-#[derive(Clone, Copy)]
-pub enum Counted {
-    Made(FanInCount),
-    Above,
-}
-
 impl FanInCount {
     // A gate has at most so many fan-ins [B2].
     pub const MOST: usize = 8;
 
     // The fan-in count x, unless it is above the ceiling.
-    pub fn new(x: usize) -> Counted
+    pub fn new(x: usize) -> Option<FanInCount>
         ensures { result ≡ counted x }
     {
-        if x <= Self::MOST {
-            Counted::Made(FanInCount(x))
-        } else {
-            Counted::Above
-        }
+        (x <= Self::MOST).then_some(FanInCount(x))
     }
 
     // This count as a place of a count row holds it.
     pub fn count_place(self) -> u8
         ensures { result ≡ count_place self }
     {
-        held_8(self.0)
+        u8::try_from(self.0).unwrap_or(u8::MAX)
     }
 }

@@ -14,6 +14,7 @@ use Rattle.frames.proofs.Formed.{Formed, formed}
 use Rattle.frames.proofs.Numbers.{byte_most}
 use Rattle.frames.proofs.OfLine.{weight_most, delay_most}
 use Rattle.frames.proofs.Gate.{gate_4_count, gate_4_length, gate_5, gate_6, gate_read, same_gate}
+use Rattle.std.specs.Prelude.{Err}
 use Rattle.frames.proofs.read_gate.Goals as goal
 
 pub overflow_add-at : goal.overflow_add-at
@@ -28,7 +29,7 @@ byte_at-fan_ins-requires c =
 
 pub returns-in_default : goal.returns-in_default
 returns-in_default c =
-    c.refused.ensures
+    ap (λ f. Err f) c.at_line.ensures
     ∙ gate_4_count c.args.text.now c.args.at c.args.end c.args.gates c.args.line c.requires.0 c.requires.1
     (omega (arith, counted_above c.byte_at-fan_ins.result (sym c.new.ensures ∙ c.in_default.is)))
 
@@ -47,14 +48,14 @@ overflow_add-fan_ins c =
 
 pub returns-then-end-at : goal.returns-then-end-at
 returns-then-end-at c =
-    c.refused-then-end-at.ensures
+    ap (λ f. Err f) c.at_line-then-end-at.ensures
     ∙ gate_4_length c.args.text.now c.args.at c.args.end c.args.gates c.args.line c.requires.0 c.requires.1 (omega arith)
 
 pub returns-in_default-new : goal.returns-in_default-new
 returns-in_default-new c =
-    let count-made : ((byte_from c.args.text.now (c.args.at + 10)) ≤ most_fanins) × (c.in-Made.count.0 ≡ (byte_from c.args.text.now (c.args.at + 10))) = let m = counted_made c.byte_at-fan_ins.result c.in-Made.count (sym c.new.ensures ∙ c.in-Made.is) in
+    let count-made : ((byte_from c.args.text.now (c.args.at + 10)) ≤ most_fanins) × (c.in-Some.count.0 ≡ (byte_from c.args.text.now (c.args.at + 10))) = let m = counted_made c.byte_at-fan_ins.result c.in-Some.count (sym c.new.ensures ∙ c.in-Some.is) in
     (omega arith, omega arith) in
-    c.refused-in_default-new.ensures
+    ap (λ f. Err f) c.at_line-in_default-new.ensures
     ∙ gate_5 c.args.text.now c.args.at c.args.end c.args.gates c.args.line c.requires.0 c.requires.1
     (count-made).0
     (omega arith)
@@ -67,13 +68,13 @@ rising-requires c =
 
 pub returns-then-not-rising : goal.returns-then-not-rising
 returns-then-not-rising c =
-    let count-made : ((byte_from c.args.text.now (c.args.at + 10)) ≤ most_fanins) × (c.in-Made.count.0 ≡ (byte_from c.args.text.now (c.args.at + 10))) = let m = counted_made c.byte_at-fan_ins.result c.in-Made.count (sym c.new.ensures ∙ c.in-Made.is) in
+    let count-made : ((byte_from c.args.text.now (c.args.at + 10)) ≤ most_fanins) × (c.in-Some.count.0 ≡ (byte_from c.args.text.now (c.args.at + 10))) = let m = counted_made c.byte_at-fan_ins.result c.in-Some.count (sym c.new.ensures ∙ c.in-Some.is) in
     (omega arith, omega arith) in
     let long : c.args.end - c.args.at ≡ 12 + 4 * (byte_from c.args.text.now (c.args.at + 10)) = omega arith in
-    let gate-made : let gates = c.args.gates in (gates < most_gates) × (c.in-Made-new.gate.0 ≡ gates) = numbered_made c.args.gates c.in-Made-new.gate (sym c.new-2.ensures ∙ c.in-Made-new.is) in
+    let gate-made : let gates = c.args.gates in (gates < most_gates) × (c.in-Some-new.gate.0 ≡ gates) = numbered_made c.args.gates c.in-Some-new.gate (sym c.new-2.ensures ∙ c.in-Some-new.is) in
     let tested : ℕ → Bool = λ gates. rising_from 0 gates (words (bytes (slice (c.args.at + 12) c.args.end c.args.text.now))) in
     let fan_ins_tested : tested c.args.gates ≡ c.rising.result = ap tested (sym (gate-made).1) ∙ sym c.rising.ensures in
-    c.refused-then-not-rising.ensures
+    ap (λ f. Err f) c.at_line-then-not-rising.ensures
     ∙ gate_6 c.args.text.now c.args.at c.args.end c.args.gates c.args.line c.requires.0 c.requires.1
     (count-made).0
     (long)
@@ -104,14 +105,14 @@ overflow_add-result c =
 
 pub returns : goal.returns
 returns c =
-    let count-made : ((byte_from c.args.text.now (c.args.at + 10)) ≤ most_fanins) × (c.in-Made.count.0 ≡ (byte_from c.args.text.now (c.args.at + 10))) = let m = counted_made c.byte_at-fan_ins.result c.in-Made.count (sym c.new.ensures ∙ c.in-Made.is) in
+    let count-made : ((byte_from c.args.text.now (c.args.at + 10)) ≤ most_fanins) × (c.in-Some.count.0 ≡ (byte_from c.args.text.now (c.args.at + 10))) = let m = counted_made c.byte_at-fan_ins.result c.in-Some.count (sym c.new.ensures ∙ c.in-Some.is) in
     (omega arith, omega arith) in
-    let weight-made : let a = c.args in c.in-Made-weight.weight.0 ≡ word_from a.text.now (a.at + 2) = (weighed_made c.word_at.result c.in-Made-weight.weight (sym c.weight.ensures ∙ c.in-Made-weight.is)).1
+    let weight-made : let a = c.args in c.in-Some-weight.weight.0 ≡ word_from a.text.now (a.at + 2) = (weighed_made c.word_at.result c.in-Some-weight.weight (sym c.weight.ensures ∙ c.in-Some-weight.is)).1
     ∙ c.word_at.ensures in
-    let delay-made : let a = c.args in c.in-Made-delay.delay.0 ≡ word_from a.text.now (a.at + 6) = (delayed_made c.word_at-2.result c.in-Made-delay.delay (sym c.delay.ensures ∙ c.in-Made-delay.is)).1
+    let delay-made : let a = c.args in c.in-Some-delay.delay.0 ≡ word_from a.text.now (a.at + 6) = (delayed_made c.word_at-2.result c.in-Some-delay.delay (sym c.delay.ensures ∙ c.in-Some-delay.is)).1
     ∙ c.word_at-2.ensures in
     let long : c.args.end - c.args.at ≡ 12 + 4 * (byte_from c.args.text.now (c.args.at + 10)) = omega arith in
-    let gate-made : let gates = c.args.gates in (gates < most_gates) × (c.in-Made-new.gate.0 ≡ gates) = numbered_made c.args.gates c.in-Made-new.gate (sym c.new-2.ensures ∙ c.in-Made-new.is) in
+    let gate-made : let gates = c.args.gates in (gates < most_gates) × (c.in-Some-new.gate.0 ≡ gates) = numbered_made c.args.gates c.in-Some-new.gate (sym c.new-2.ensures ∙ c.in-Some-new.is) in
     let tested : ℕ → Bool = λ gates. rising_from 0 gates (words (bytes (slice (c.args.at + 12) c.args.end c.args.text.now))) in
     let fan_ins_tested : tested c.args.gates ≡ c.rising.result = ap tested (sym (gate-made).1) ∙ sym c.rising.ensures in
     let count = count-made in

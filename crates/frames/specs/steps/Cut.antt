@@ -1,10 +1,9 @@
 -- A line cut out of the text, what its form is, and the number that four of its bytes spell.
-use Rattle.std.specs.Prelude.{ℕ, suc, ◌+◌, ◌*◌, cond, List, [], ◌∷◌, length, ltb, eqb}
+use Rattle.std.specs.Prelude.{ℕ, suc, ◌+◌, ◌*◌, cond, List, [], ◌∷◌, length, ltb, eqb, Result, Ok, Err}
 use Rattle.std.proofs.Math.Option.{Option, none, some}
 use Rattle.std.proofs.Math.Seq.{slice}
 use Rattle.frames.specs.declared.Place.TheVariants.{Opening}
-use Rattle.frames.specs.declared.Form.{Form}
-use Rattle.frames.specs.declared.Form.TheVariants.{Right, Wrong}
+use Rattle.frames.specs.declared.Refusal.{Refusal}
 use Rattle.frames.specs.Refusal.{at_column}
 use Rattle.frames.specs.Text.{Line, line_feed}
 use Rattle.frames.specs.Table.{form_rows, first_given, column}
@@ -24,12 +23,12 @@ unfolding first_given form_rows
 form_fault l = first_given form_rows Opening l
 
 -- What is found of the form of a line: nothing, or a number with its line and column.
-unfoldable pub form_told : Option ℕ → ℕ → Line → Form
+unfoldable pub form_told : Option ℕ → ℕ → Line → Result (Unit {0}) Refusal
 unfolding column
-form_told none line l = Right
-form_told (some k) line l = Wrong (at_column k line (column k l))
+form_told none line l = Ok (tt {0})
+form_told (some k) line l = Err (at_column k line (column k l))
 
-unfoldable pub form_found : ℕ → Line → Form
+unfoldable pub form_found : ℕ → Line → Result (Unit {0}) Refusal
 unfolding form_told form_fault
 form_found line l = form_told (form_fault l) line l
 

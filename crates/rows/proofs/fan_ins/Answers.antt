@@ -6,22 +6,13 @@ use Rattle.model.specs.Ceilings.{most_fanins}
 use Rattle.rows.specs.Row.{places, count_in}
 use Rattle.rows.proofs.Access.{fanins_none, fanins_at}
 use Rattle.rows.proofs.fan_ins.Goals as goal
-use Rattle.rows.proofs.fan_ins.Goals.{then-counted-le-MOST, else-counted-le-MOST}
 
 pub returns-then-row-v : goal.returns-then-row-v
-returns-then-row-v c =
-    fanins_none _ _ c.if-row-v.true
-
-pub overflow_add-to : goal.overflow_add-to
-overflow_add-to c =
-    let many : c.if-counted-le-MOST.many ≡ min (count_in c.args.row.now c.args.v) most_fanins = let counted = c.count-counted.ensures in
-    elim c.if-counted-le-MOST.branch [ then-counted-le-MOST w ↦ omega (arith, counted) | else-counted-le-MOST w ↦ omega (arith, counted) ] in
-    omega (arith, many)
+returns-then-row-v c = fanins_none _ _ c.if-row-v.true
 
 pub returns : goal.returns
 returns c =
-    let many : c.if-counted-le-MOST.many ≡ min (count_in c.args.row.now c.args.v) most_fanins = let counted = c.count-counted.ensures in
-    elim c.if-counted-le-MOST.branch [ then-counted-le-MOST w ↦ omega (arith, counted) | else-counted-le-MOST w ↦ omega (arith, counted) ] in
+    let many : c.min-many.result ≡ min (count_in c.args.row.now c.args.v) most_fanins = rw c.count.ensures at c.min-many.ensures in
     let from = places * c.args.v + 3 in
-    let n : from + c.if-counted-le-MOST.many - from ≡ c.if-counted-le-MOST.many = omega arith in
-    rw n (fanins_at _ _ c.if-row-v.false _ (many))
+    let n : from + c.min-many.result - from ≡ c.min-many.result = omega arith in
+    rw n (fanins_at _ _ c.if-row-v.false _ many)

@@ -7,6 +7,3 @@ use Rattle.rows.proofs.first_fault.Given as goal
 
 abbrev pub invariant-loop-v : goal.invariant-loop-v
 invariant-loop-v l = first_fault l.row l.v (l.gates - l.v) ≡ first_fault l.row 0 l.gates
-
-abbrev pub decreases-loop-v : goal.decreases-loop-v
-decreases-loop-v l = l.gates - l.v

@@ -1,28 +1,24 @@
--- `rows::first_heavy` meets its contract. The loop's invariant: what the gates from v on have is what all of them
--- have.
+-- `rows::first_heavy` meets its contract: a heavy gate decides where those before it are light.
 use Prim.Native.Nat.{◌-◌}
 use mathlib.Core.Path.{◌≡◌, sym, ◌∙◌}
 use native.Mathlib.Omega.{arith}
+use Rattle.std.proofs.lemmas.Result.{err_from_is_err_and}
+use Rattle.std.specs.Prelude.{Err}
 use Rattle.rows.specs.Row.{weight_in}
 use Rattle.rows.specs.steps.RowCheck.{heavy_fault, first_heavy_fault}
 use Rattle.rows.proofs.Faults.{light_here, heavy_here}
 use Rattle.rows.proofs.first_heavy.Goals as goal
 
-pub loop-v-init : goal.loop-v-init
-loop-v-init c =
-    let z : c.args.header.gates - 0 ≡ c.args.header.gates = omega arith in rw z
-
-pub returns-in_default : goal.returns-in_default
-returns-in_default c =
-    let heavy : c.heavy_fault-fault.result ≡ heavy_fault c.loop-v.v (weight_in c.args.row.now c.loop-v.v) c.args.header.capacity.0 = rw c.weight.ensures at c.heavy_fault-fault.ensures in
-    heavy
-    ∙ heavy_here _ _ c.loop-v.v _ c.loop-v-test.true (sym (heavy) ∙ c.in_default.is)
-    ∙ c.loop-v.invariant
+pub returns-in_err-heavy_fault : goal.returns-in_err-heavy_fault
+returns-in_err-heavy_fault c =
+    let p = err_from_is_err_and c.from_residual.result c.from_residual.ensures.1 in
+    let told : heavy_fault c.loop-v.v (weight_in c.args.row.now c.loop-v.v) c.args.header.capacity.0 ≡ Err c.in_err-heavy_fault.field-0.0
+    = sym (rw c.weight.ensures at c.heavy_fault.ensures) ∙ c.in_err-heavy_fault.was in
+    rw (p.1, p.2) (sym told ∙ heavy_here _ _ c.loop-v.v _ c.loop-v-test.true told ∙ c.loop-v.invariant)
 
 pub loop-v-preserved : goal.loop-v-preserved
 loop-v-preserved c =
-    let heavy : c.heavy_fault-fault.result ≡ heavy_fault c.loop-v.v (weight_in c.args.row.now c.loop-v.v) c.args.header.capacity.0 = rw c.weight.ensures at c.heavy_fault-fault.ensures in
-    light_here _ _ c.loop-v.v _ c.loop-v-test.true (sym (heavy) ∙ c.in-None.is)
+    light_here _ _ c.loop-v.v _ c.loop-v-test.true (sym (rw c.weight.ensures at c.heavy_fault.ensures) ∙ c.in_ok-heavy_fault.was)
     ∙ c.loop-v.invariant
 
 pub returns : goal.returns

@@ -6,7 +6,4 @@ use Rattle.rows.specs.steps.RowCheck.{first_heavy_fault}
 use Rattle.rows.proofs.first_heavy.Given as goal
 
 abbrev pub invariant-loop-v : goal.invariant-loop-v
-invariant-loop-v l = first_heavy_fault l.capacity.0 l.row l.v (l.gates - l.v) ≡ first_heavy_fault l.capacity.0 l.row 0 l.gates
-
-abbrev pub decreases-loop-v : goal.decreases-loop-v
-decreases-loop-v l = l.gates - l.v
+invariant-loop-v l = first_heavy_fault l.header.capacity.0 l.row l.v (l.header.gates - l.v) ≡ first_heavy_fault l.header.capacity.0 l.row 0 l.header.gates

@@ -4,13 +4,10 @@ use borrow.Author.Tests.{leb-true, leb-false, lt-ltb, le-ltb}
 use Rattle.rows.specs.steps.RowCheck.{heavy_fault}
 use Rattle.rows.proofs.heavy_fault.Goals as goal
 
-pub returns-then-within : goal.returns-then-within
+pub returns-then-not-within : goal.returns-then-not-within
 unfolding heavy_fault
-returns-then-within c =
-    rw (le-ltb _ _ (leb-true _ _ (sym c.within.ensures ∙ c.if-within.true)))
+returns-then-not-within c = rw (c.at_gate.ensures, lt-ltb _ _ (leb-false _ _ (sym c.within.ensures ∙ c.if-not-within.true)))
 
-pub returns-else-within : goal.returns-else-within
+pub returns : goal.returns
 unfolding heavy_fault
-returns-else-within c =
-    c.fault_at.ensures
-    ∙ rw (lt-ltb _ _ (leb-false _ _ (sym c.within.ensures ∙ c.if-within.false)))
+returns c = rw (le-ltb _ _ (leb-true _ _ (sym c.within.ensures ∙ c.if-not-within.false)))

@@ -2,5 +2,4 @@
 use Rattle.rows.proofs.Header.settled.Goals as goal
 
 pub returns : goal.returns
-returns c =
-    rw (c.capacity_place.ensures, c.delay_place.ensures)
+returns c = rw (c.from.ensures, c.from-2.ensures, c.capacity_place.ensures, c.delay_place.ensures)

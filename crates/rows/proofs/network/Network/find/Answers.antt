@@ -4,4 +4,4 @@ use Rattle.rows.proofs.network.Network.find.Goals as goal
 
 pub invariant_of-result : goal.invariant_of-result
 invariant_of-result c =
-    record { holds = (check_network _ _ (λ i. (c.type_inv.row i).fits) c.check.ensures c.in-Network.is).holds }
+    record { holds = (check_network _ _ (λ i. (c.type_inv.row i).fits) c.check.ensures c.in_ok-header.was).holds }
