@@ -17,7 +17,7 @@ fn raise(onward: &mut Row, entry: Ticks, fanins: &[u16])
     ensures { onward.new ≡ raise onward.old entry.0 fanins.now }
 {
     for &x in fanins {
-        let x = x as usize;
+        let x = usize::from(x);
         onward[x] = Ticks(onward[x]).larger(entry).0;
     }
 }

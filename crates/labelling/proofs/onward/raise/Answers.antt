@@ -6,13 +6,14 @@ use Rattle.labelling.proofs.OnwardLaws.{raise_next, raise_done}
 use Rattle.labelling.proofs.onward.raise.Goals as goal
 
 pub bounds-onward-x : goal.bounds-onward-x
-bounds-onward-x c = c.requires _ (get_or_in _ c.loop-x.x-index (omega arith))
+bounds-onward-x c = rw c.from-x.ensures (c.requires _ (get_or_in _ c.loop-x.x-index (omega arith)))
 
 pub bounds-onward-x-in-loop-x : goal.bounds-onward-x-in-loop-x
-bounds-onward-x-in-loop-x c = c.requires _ (get_or_in _ c.loop-x.x-index (omega arith))
+bounds-onward-x-in-loop-x c = rw c.from-x.ensures (c.requires _ (get_or_in _ c.loop-x.x-index (omega arith)))
 
 pub loop-x-preserved : goal.loop-x-preserved
-loop-x-preserved c = raise_next c.loop-x.onward _ _ c.loop-x.x-index _ (omega arith) c.larger.ensures ∙ c.loop-x.invariant
+loop-x-preserved c =
+    raise_next c.loop-x.onward _ _ c.loop-x.x-index _ _ (omega arith) c.from-x.ensures c.larger.ensures ∙ c.loop-x.invariant
 
 pub returns : goal.returns
 returns c = sym (raise_done _ _ _ c.loop-x.x-index (omega arith)) ∙ c.loop-x.invariant
