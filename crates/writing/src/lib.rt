@@ -50,13 +50,11 @@ fn spell_gate(network: &Network, gate: usize, out: &mut [u8]) -> Result<usize, R
     if out.len() < 13 + 4 * count {
         return Err(Refusal::no_room());
     }
+    let weight = rows::weight(row, gate).weight_place();
+    let delay = rows::delay(row, gate).delay_place();
     let at = put(out, 0, &[0x02]);
-    let at = put(
-        out,
-        at,
-        &rows::weight(row, gate).weight_place().to_be_bytes(),
-    );
-    let at = put(out, at, &rows::delay(row, gate).delay_place().to_be_bytes());
+    let at = put(out, at, &weight.to_be_bytes());
+    let at = put(out, at, &delay.to_be_bytes());
     let at = put(out, at, &[count as u8]);
     let at = put_words(out, at, fan_ins);
     feed(out, at)
@@ -68,11 +66,8 @@ fn spell_line(index: usize, network: &Network, out: &mut [u8]) -> Result<usize, 
 {
     let header = network.header;
     if index == 0 {
-        return spell_header(
-            header.capacity.capacity_place(),
-            header.hop.delay_place(),
-            out,
-        );
+        let capacity = header.capacity.capacity_place();
+        return spell_header(capacity, header.hop.delay_place(), out);
     }
     let gate = index - 1;
     if gate < header.gates {

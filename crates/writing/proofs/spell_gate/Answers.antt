@@ -26,8 +26,8 @@ pub returns : goal.returns
 returns c =
     let row = c.args.network.now.row.now in
     let fs = c.fan_ins-fan_ins.result.now in
-    let bytes = frame c.weight_place.result c.delay_place.result (length fs) fs in
-    let is_line = gate_line_is c.args.network.now.holds c.requires c.weight.ensures c.weight_place.ensures c.delay.ensures c.delay_place.ensures c.fan_ins-fan_ins.ensures in
+    let bytes = frame c.weight_place-weight.result c.delay_place-delay.result (length fs) fs in
+    let is_line = gate_line_is c.args.network.now.holds c.requires c.weight.ensures c.weight_place-weight.ensures c.delay.ensures c.delay_place-delay.ensures c.fan_ins-fan_ins.ensures in
     let stands =
     gate_stands _ _ _ _ c.if-out-count.false
     c.put-at.ensures

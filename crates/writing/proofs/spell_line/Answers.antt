@@ -10,7 +10,7 @@ use Rattle.writing.proofs.spell_line.Goals as goal
 pub returns-then-index-eq0 : goal.returns-then-index-eq0
 returns-then-index-eq0 c =
     let n = c.args.network.now in
-    rw (header_at n.header n.row.now c.if-index-eq0.true c.capacity_place.ensures c.delay_place.ensures) c.spell_header.ensures
+    rw (header_at n.header n.row.now c.if-index-eq0.true c.capacity_place-capacity.ensures c.delay_place.ensures) c.spell_header.ensures
 
 pub returns-then-gate-header : goal.returns-then-gate-header
 returns-then-gate-header c =
