@@ -5,7 +5,7 @@ use mathlib.Core.List.{List, [], ◌∷◌, ◌++◌}
 use lib.ListN.{replicate}
 use Rattle.units.specs.Units.{cells, ticks}
 use Rattle.frames.specs.Refusal.{no_room}
-use Rattle.frames.specs.declared.Written.TheVariants.{Line, Refused}
+use Rattle.std.specs.Prelude.{Ok, Err}
 use Rattle.frames.specs.Put.{line_at, line_answer, line_row}
 use Rattle.rows.specs.declared.Header.{Header}
 use Rattle.rows.specs.Spelling.{row_lines}
@@ -49,12 +49,12 @@ line_7 : a_line 7 ≡ []
 unfolding a_line
 line_7 = refl
 
-past_the_last : line_answer (a_line 7) [] ≡ Line 0
+past_the_last : line_answer (a_line 7) [] ≡ Ok 0
 unfolding line_answer a_line
 past_the_last = refl
 
 -- The end needs seven places: with six the answer is 10, with eight the last one is kept.
-too_few : line_answer (a_line 6) (replicate 6 9) ≡ Refused no_room
+too_few : line_answer (a_line 6) (replicate 6 9) ≡ Err no_room
 unfolding line_answer a_line
 too_few = refl
 

@@ -11,8 +11,7 @@ use Rattle.units.specs.declared.Cells.{Cells}
 use Rattle.units.specs.declared.Ticks.{Ticks}
 use Rattle.units.specs.Units.{held, weight_place, capacity_place, delay_place}
 use Rattle.frames.specs.declared.Refusal.{Refusal}
-use Rattle.frames.specs.declared.Written.{Written}
-use Rattle.frames.specs.declared.Written.TheVariants.{Refused}
+use Rattle.std.specs.Prelude.{Result, Err}
 use Rattle.frames.specs.Digits.{byte_digits, word_bytes, digits, spell_line}
 use Rattle.frames.specs.Put.{Put, LineWritten, line_at}
 use Rattle.frames.proofs.Made.{length_made, get_or_made}
@@ -114,11 +113,11 @@ module _ (h : Header) (row : List ℕ) where
 
 -- Once the row is checked: its refusal handed on, or the line written.
 module _ (index : ℕ) {h : Header} {row : List ℕ} (out : List ℕ) where
-  pub row_refused : {f g : Refusal} → row_answer h row ≡ refused f → g ≡ f → RowWritten index h row out (Refused g) out
+  pub row_refused : {f : Refusal} → row_answer h row ≡ refused f → RowWritten index h row out (Err f) out
   unfolding answer_unless row_unless
-  row_refused e is = record { answer = rw e (ap Refused is); kept = rw e }
+  row_refused e = record { answer = rw e; kept = rw e }
 
-  pub row_written : {k : Header} {r : Written} {after : List ℕ} → Known h k row → LineWritten (line_at index (row_lines k row)) out r after
+  pub row_written : {k : Header} {r : Result ℕ Refusal} {after : List ℕ} → Known h k row → LineWritten (line_at index (row_lines k row)) out r after
       → RowWritten index h row out r after
   unfolding answer_unless row_unless
   row_written known w =

@@ -1,15 +1,14 @@
 -- What writing a line of a network in its row answers, and what it leaves in the lent row.
-use Rattle.std.specs.Prelude.{ℕ, ◌≡◌, List}
-use Rattle.frames.specs.declared.Written.{Written}
-use Rattle.frames.specs.declared.Written.TheVariants.{Refused}
+use Rattle.std.specs.Prelude.{ℕ, ◌≡◌, List, Result, Err}
+use Rattle.frames.specs.declared.Refusal.{Refusal}
 use Rattle.frames.specs.Put.{line_answer, line_row, line_at}
 use Rattle.texts.specs.Reading.{Reading, refused, network}
 use Rattle.rows.specs.declared.Header.{Header}
 use Rattle.rows.specs.Spelling.{row_lines, row_answer}
 
 -- [R5] a refusal of the text that the row spells is handed on
-unfoldable pub answer_unless : Reading → Written → Written
-answer_unless (refused f) w = Refused f
+unfoldable pub answer_unless : Reading → Result ℕ Refusal → Result ℕ Refusal
+answer_unless (refused f) w = Err f
 answer_unless (network n) w = w
 
 -- [R4] on a refusal the row as it was
@@ -18,6 +17,6 @@ row_unless (refused f) out row = out
 row_unless (network n) out row = row
 
 -- One line of the text that a header and a row spell, written into a lent row.
-pub record RowWritten (index : ℕ) (h : Header) (row out : List ℕ) (r : Written) (after : List ℕ) : Type 0 where
+pub record RowWritten (index : ℕ) (h : Header) (row out : List ℕ) (r : Result ℕ Refusal) (after : List ℕ) : Type 0 where
   pub answer : r ≡ answer_unless (row_answer h row) (line_answer (line_at index (row_lines h row)) out)
   pub kept : after ≡ row_unless (row_answer h row) out (line_row (line_at index (row_lines h row)) out)
