@@ -33,7 +33,8 @@ module _ (n : Standing) {labels marks : List ℕ} where
       rw (network_size n.header n.row.now) (short n.header.gates labels marks k) in
       record { answer = rw t; kept = rw t }
 
-  pub drawn_unlabelled : {f : Refusal} → WithLabels n labels (Err f) → DrawingAnswered (network (network_of n)) labels marks (Err f) marks
+  pub drawn_unlabelled :
+      {f : Refusal} → WithLabels n labels (Err f) → DrawingAnswered (network (network_of n)) labels marks (Err f) marks
   drawn_unlabelled w = let (less, is_no_room) = unlabelled w in rw is_no_room (drawn_short (inl less))
 
   pub drawn_made : {clusters : ℕ} {delay : Ticks} {after : List ℕ} → n.header.gates ≤ length labels → n.header.gates ≤ length marks

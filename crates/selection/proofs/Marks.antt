@@ -22,15 +22,6 @@ use Rattle.selection.specs.steps.Marking.{fanins_of, unmarked, largest_label, ou
 
 -- marks, a gate at a time
 
-pub mark_next :
-    (row xs : List ℕ) (i : ℕ) → i < length xs → mark (set row (get_or xs i 0) 1) (drop (i + 1) xs) ≡ mark row (drop i xs)
-unfolding mark
-mark_next row xs i h = rw (add-one, drop-cons xs i 0)
-
-pub mark_done : (row xs : List ℕ) (i : ℕ) → length xs ≤ i → mark row (drop i xs) ≡ row
-unfolding mark
-mark_done row xs i h = rw (drop_of_length-le xs h)
-
 mark_append : (row xs ys : List ℕ) → mark row (xs ++ ys) ≡ mark (mark row xs) ys
 unfolding mark
 mark_append row [] ys = refl

@@ -95,7 +95,8 @@ numbered_roots marks (suc k) =
     (λ (d : get_or marks k 0 ≡ 0 → ⊥). rw (ne_eqb (get_or marks k 0) 0 d, front, from) (sym (rw add-one at (roots_marked marks k d))))
     (same_or_not (get_or marks k 0) 0)))
     (λ (l : length marks ≤ k).
-    ap (λ (front : List ℕ). map (λ p. p.0) (filter is_root (enumerate_from 0 front))) (take_all (suc k) marks (omega arith) ∙ sym (take_all k marks l))
+    ap (λ (front : List ℕ). map (λ p. p.0) (filter is_root (enumerate_from 0 front)))
+    (take_all (suc k) marks (omega arith) ∙ sym (take_all k marks l))
     ∙ numbered_roots marks k
     ∙ sym (rw add-one at (roots_bare marks k (get_or-eq_default marks 0 l))))
     (cases_lt k (length marks))

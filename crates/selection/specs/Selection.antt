@@ -24,7 +24,8 @@ roots marks k = keep (λ r. ltb 0 (get_or marks r 0)) (upto k)
 unfoldable pub drawn_answer : Reading → List ℕ → List ℕ → Result Drawn Refusal
 drawn_answer (refused f) labels row = Err f
 drawn_answer (network n) labels row =
-    cond (either_short (size n) labels row) (Err no_room) (Ok (record { clusters = length (drawn n labels); delay = ticks (delay_from n labels) }))
+    cond (either_short (size n) labels row) (Err no_room)
+    (Ok (record { clusters = length (drawn n labels); delay = ticks (delay_from n labels) }))
 
 -- The row afterwards: the marks in front, the rest as it was; on a refusal all of it as it was.
 unfoldable pub drawn_row : Reading → List ℕ → List ℕ → List ℕ

@@ -19,7 +19,7 @@ use rows::Header;
 use rows::network::Network;
 use units::{GateNumber, Ticks};
 
-// What is drawn: how many clusters, the marks standing in the row, and the output delay.
+// What is drawn: how many clusters, whose roots the row marks, and the output delay.
 #[derive(Clone, Copy)]
 pub struct Drawn {
     pub clusters: usize,
@@ -150,9 +150,11 @@ fn draw_inputs(labelled: &Labelled, root: usize, marks: &mut [u8])
 // With each marked root a mark for the inputs of its cluster [S2]: from the last gate to the first, since these stand below it.
 fn sweep(labelled: &Labelled, marks: &mut [u8])
     requires { length marks.old ≡ labelled.now.network.header.gates }
-    ensures { marks.new ≡ select (network_of labelled.now.network) labelled.now.labels.now labelled.now.network.header.gates marks.old }
+    ensures { marks.new
+        ≡ select (network_of labelled.now.network) labelled.now.labels.now labelled.now.network.header.gates marks.old }
 {
-    for root in (0..labelled.network.header.gates).rev() {
+    let gates = labelled.network.header.gates;
+    for root in (0..gates).rev() {
         if marks[root] != 0 {
             draw_inputs(labelled, root, marks);
         }

@@ -11,7 +11,8 @@ pub returns : goal.returns
 returns c =
     let counted = count_from_yields_List c.filter.result c.count.result c.count.ensures.ran
     (YieldsList-from_filter _ marked
-    (YieldsList-at c.filter.ensures.source (YieldsList-from_take c.args.gates (YieldsList-at c.take.ensures.source (YieldsList-from_slice c.args.marks.now (cc))) (cc)))
+    (YieldsList-at c.filter.ensures.source
+    (YieldsList-from_take c.args.gates (YieldsList-at c.take.ensures.source (YieldsList-from_slice c.args.marks.now (cc))) (cc)))
     c.filter.ensures.closure
     (λ x r q k. search (rules, tests))) in
     counted ∙ marked_roots c.args.marks.now c.args.gates

@@ -15,7 +15,8 @@ pub returns-in_err-labelled : goal.returns-in_err-labelled
 returns-in_err-labelled c =
     let p = err_from_is_err_and c.from_residual-in_err-labelled.result c.from_residual-in_err-labelled.ensures.1 in
     rw (p.1, p.2)
-    (drawn_told (found_answer _ _ (λ i. (c.type_inv.row i).fits) c.in_ok-network.ensures) (drawn_unlabelled c.in_ok-network.network c.in_err-labelled.ensures))
+    (drawn_told (found_answer _ _ (λ i. (c.type_inv.row i).fits) c.in_ok-network.ensures)
+    (drawn_unlabelled c.in_ok-network.network c.in_err-labelled.ensures))
 
 pub returns : goal.returns
 returns c =

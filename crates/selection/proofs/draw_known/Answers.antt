@@ -1,11 +1,10 @@
 -- `selection::draw_known` meets its contract: the marks stand in front of the row, and the marked gates are the
 -- roots of the drawn clusters.
 use Prim.Native.Nat.{ℕ}
-use mathlib.Core.Path.{◌≡◌, sym, ◌∙◌, ap}
+use mathlib.Core.Path.{◌≡◌, ◌∙◌, ap}
 use mathlib.Core.Logic.{inr}
 use mathlib.Core.List.{List, ◌++◌}
 use lib.ListN.{length, drop}
-use lib.Seq.{length-take-le}
 use Rattle.model.specs.Drawing.{marks}
 use Rattle.rows.specs.Found.{network_of}
 use Rattle.rows.proofs.Holds.{network_size}
@@ -17,14 +16,6 @@ use Rattle.selection.proofs.draw_known.Goals as goal
 pub returns-then-marks-gates : goal.returns-then-marks-gates
 returns-then-marks-gates c =
     rw c.no_room.ensures (drawn_short c.args.labelled.now.network (inr c.if-marks-gates.true))
-
-pub slice_bounds-select-end-2 : goal.slice_bounds-select-end-2
-slice_bounds-select-end-2 c =
-    sym (length-take-le _ _ c.if-marks-gates.false)
-
-pub select-requires : goal.select-requires
-select-requires c =
-    length-take-le _ _ c.if-marks-gates.false
 
 pub returns : goal.returns
 returns c =

@@ -25,27 +25,30 @@ turn c =
     let l = c.args.labelled.now in
     let gates = l.network.header.gates in
     let v = length c.loop-mark.yielded in
-    let t = zip_turn c.args.row.now (take gates l.labels.now) c.loop-mark.yielded c.into_iter-mark-iterator.result c.loop-mark.mark-iterator c.next.new.self _ (cc) (cc)
-    c.loop-mark.yielded_by _ c.in-Some.is c.next.ensures.steps in
+    let t = zip_turn c.args.row.now (take gates l.labels.now) c.loop-mark.yielded c.into_iter-mark-iterator.result
+    c.loop-mark.mark-iterator c.next.new.self _ (cc) (cc) c.loop-mark.yielded_by _ c.in-Some.is c.next.ensures.steps in
     let below : v < gates = omega (arith, t, length-take-le gates l.labels.now l.enough) in
     (sym (t.2 0), sym (t.3 0 ∙ get_or-take gates l.labels.now v 0 below))
 
 pub loop-mark-preserved-then-mark-eq0 : goal.loop-mark-preserved-then-mark-eq0
 loop-mark-preserved-then-mark-eq0 c =
     let t = turn (goal.at.loop-mark-preserved-then-mark-eq0 c).In-Some in
-    rw (length_push, largest_next c.args.labelled.now.labels.now c.args.row.now (length c.loop-mark.yielded) (t.0 ∙ c.if-mark-eq0.true)) (omega arith)
+    rw (length_push, largest_next c.args.labelled.now.labels.now c.args.row.now (length c.loop-mark.yielded) (t.0 ∙ c.if-mark-eq0.true))
+    (omega arith)
 
 pub loop-mark-preserved : goal.loop-mark-preserved
 loop-mark-preserved c =
     let t = turn (goal.at.loop-mark-preserved c).In-Some in
-    rw (length_push, largest_same c.args.labelled.now.labels.now c.args.row.now (length c.loop-mark.yielded) (λ e. c.if-mark-eq0.false (sym t.0 ∙ e)))
+    let marked : get_or c.args.row.now (length c.loop-mark.yielded) 0 ≡ 0 → ⊥ = λ e. c.if-mark-eq0.false (sym t.0 ∙ e) in
+    rw (length_push, largest_same c.args.labelled.now.labels.now c.args.row.now (length c.loop-mark.yielded) marked)
     c.loop-mark.invariant
 
 pub returns : goal.returns
 returns c =
     let l = c.args.labelled.now in
     let gates = l.network.header.gates in
-    let ended = zip_end c.args.row.now (take gates l.labels.now) c.loop-mark.yielded c.into_iter-mark-iterator.result c.loop-mark.mark-iterator c.next.new.self _ (cc) (cc)
-    c.loop-mark.yielded_by c.in-None.is c.next.ensures.steps in
-    let all : length c.loop-mark.yielded ≡ gates = omega (arith, ended, length-take-le gates l.labels.now l.enough, few_gates _ _ l.network.holds) in
+    let ended = zip_end c.args.row.now (take gates l.labels.now) c.loop-mark.yielded c.into_iter-mark-iterator.result
+    c.loop-mark.mark-iterator c.next.new.self _ (cc) (cc) c.loop-mark.yielded_by c.in-None.is c.next.ensures.steps in
+    let all : length c.loop-mark.yielded ≡ gates =
+    omega (arith, ended, length-take-le gates l.labels.now l.enough, few_gates _ _ l.network.holds) in
     c.loop-mark.invariant ∙ ap (λ (k : ℕ). largest_label l.labels.now (unmarked c.args.row.now k)) all

@@ -1,9 +1,9 @@
 -- `selection::mark` meets its contract. The loop's invariant: marking what is left of the list gives what marking
 -- all of it gives from the start.
-use mathlib.Core.Path.{sym, ◌∙◌}
+use mathlib.Core.Path.{refl, sym, ◌∙◌}
 use native.Mathlib.Omega.{arith}
 use Rattle.labelling.proofs.Lists.{get_or_in}
-use Rattle.selection.proofs.Marks.{mark_next, mark_done}
+use Rattle.labelling.proofs.MemberLaws.{mark_next, mark_done}
 use Rattle.selection.proofs.mark.Goals as goal
 
 pub bounds-row-gate : goal.bounds-row-gate
@@ -12,7 +12,7 @@ bounds-row-gate c =
 
 pub loop-gate-preserved : goal.loop-gate-preserved
 loop-gate-preserved c =
-    mark_next c.loop-gate.row _ c.loop-gate.gate-index (omega arith) ∙ c.loop-gate.invariant
+    mark_next c.loop-gate.row _ c.loop-gate.gate-index _ (omega arith) refl ∙ c.loop-gate.invariant
 
 pub returns : goal.returns
 returns c =

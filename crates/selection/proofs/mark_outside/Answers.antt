@@ -19,11 +19,13 @@ bounds-marks-x c =
 
 pub loop-gate-preserved : goal.loop-gate-preserved
 loop-gate-preserved c =
-    let a = c.args in
+    let inside = c.args.inside.now in
+    let gates = c.args.gates.now in
     let i = c.loop-gate.gate-index in
+    let so_far = c.loop-gate.invariant in
     elim c.if-inside-x-eq0.branch [
-      | then-inside-x-eq0 w ↦ rw w.marks-is (outside_next a.inside.now c.loop-gate.marks a.gates.now i (omega arith) (omega arith) ∙ c.loop-gate.invariant)
-      | else-inside-x-eq0 w ↦ rw w.marks-is (inside_next a.inside.now c.loop-gate.marks a.gates.now i (omega arith) (omega arith) ∙ c.loop-gate.invariant)
+      | then-inside-x-eq0 w ↦ rw w.marks-is (outside_next inside c.loop-gate.marks gates i (omega arith) (omega arith) ∙ so_far)
+      | else-inside-x-eq0 w ↦ rw w.marks-is (inside_next inside c.loop-gate.marks gates i (omega arith) (omega arith) ∙ so_far)
     ]
 
 pub returns : goal.returns

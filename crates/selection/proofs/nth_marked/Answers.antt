@@ -20,8 +20,11 @@ returns c =
     (YieldsList-from_map _ (λ p. p.0)
     (YieldsList-at c.map.ensures.source
     (YieldsList-from_filter _ is_root
-    (YieldsList-at c.filter.ensures.source (YieldsList-from_enumerate
-    (YieldsList-at c.enumerate.ensures.source (YieldsList-from_take c.args.gates (YieldsList-at c.take.ensures.source (YieldsList-from_slice c.args.marks.now (cc))) (cc))) (cc)))
+    (YieldsList-at c.filter.ensures.source
+    (YieldsList-from_enumerate
+    (YieldsList-at c.enumerate.ensures.source
+    (YieldsList-from_take c.args.gates (YieldsList-at c.take.ensures.source (YieldsList-from_slice c.args.marks.now (cc))) (cc)))
+    (cc)))
     c.filter.ensures.closure
     (λ x r q k. search (rules, tests))))
     c.map.ensures.closure (λ x r q k. search rules)) in

@@ -1,7 +1,6 @@
 -- `selection::reads` meets its contract. The loop's invariant: the fan-ins of the gates that have been looked at are
 -- marked.
-use Prim.Native.Nat.{ℕ}
-use mathlib.Core.Path.{◌≡◌, refl, ◌∙◌, ap}
+use mathlib.Core.Path.{refl, ◌∙◌}
 use native.Mathlib.Omega.{arith}
 use lib.ListN.{replicate}
 use Rattle.model.specs.Basics.{gather, upto}
@@ -26,9 +25,3 @@ pub loop-v-preserved : goal.loop-v-preserved
 loop-v-preserved c =
     c.mark.ensures
     ∙ rw (c.fan_ins.ensures, c.loop-v.invariant) (fanins_next c.args.network.now.row.now (replicate most_gates 0) c.loop-v.v)
-
-pub returns : goal.returns
-returns c =
-    let n = c.args.network.now in
-    let e : c.loop-v.v ≡ n.header.gates = omega arith in
-    c.loop-v.invariant ∙ ap (λ (k : ℕ). mark (replicate most_gates 0) (fanins_of n.row.now (upto k))) e

@@ -25,4 +25,5 @@ loop-root-preserved c =
 pub returns : goal.returns
 returns c =
     let none_left : c.loop-root.root ≡ 0 = omega arith in
-    sym (select_none (network_of c.args.labelled.now.network) c.args.labelled.now.labels.now c.loop-root.marks) ∙ rw none_left at c.loop-root.invariant
+    sym (select_none (network_of c.args.labelled.now.network) c.args.labelled.now.labels.now c.loop-root.marks)
+    ∙ rw none_left at c.loop-root.invariant
