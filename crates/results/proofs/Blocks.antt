@@ -1,4 +1,7 @@
 -- Laws of specs/Block.antt: what is answered in each case.
+use Rattle.std.specs.Prelude.{Result, Ok, Err}
+use Rattle.results.specs.Block.{lines_of}
+use Rattle.results.specs.declared.block.Lines.{Lines}
 use Prim.Native.Nat.{ℕ, zero, suc, ◌+◌, ◌*◌, ◌-◌, ◌≤◌, ◌<◌}
 use mathlib.Core.Path.{◌≡◌, refl, sym, ◌∙◌, ap}
 use mathlib.Core.Logic.{⊎_elim}
@@ -16,16 +19,12 @@ use Rattle.frames.specs.Refusal.{no_room}
 use Rattle.frames.specs.Digits.{spell_line}
 use Rattle.frames.proofs.Tests.{never, neither_true}
 use Rattle.frames.specs.Put.{line_at, line_answer, line_row, LineWritten}
-use Rattle.frames.specs.declared.Written.{Written}
-use Rattle.frames.specs.declared.Written.TheVariants as written
 use Rattle.texts.specs.Reading.{Reading, refused, network}
 use Rattle.texts.specs.Spelling.{join}
 use Rattle.labelling.specs.Promises.{either_short}
 use Rattle.labelling.proofs.Room.{room}
 use Rattle.selection.specs.Selection.{roots}
 use Rattle.selection.proofs.Roots.{roots_few}
-use Rattle.results.specs.declared.block.Block.{Block}
-use Rattle.results.specs.declared.block.Block.TheVariants as block
 use Rattle.results.specs.Result.{result_lines, refusal_bytes}
 use Rattle.results.specs.Line.{told_line, told_answer, told_row, LineAnswered}
 use Rattle.results.specs.Block.{fitting, run_answer, in_front, lines_answer, lines_row, LinesWritten, drawn_lines, block_answer, block_row, BlockAnswered, refusal_lines}
@@ -37,15 +36,15 @@ use Rattle.results.proofs.Fitting.{Full, length_front, drop_first}
 
 -- a line that was written, or had no room
 
-module _ (line out : List ℕ) {r : Written} {row : List ℕ} (w : LineWritten line out r row) where
-  has_room : {bytes : ℕ} → r ≡ written.Line bytes → (length line ≤ length out) × (bytes ≡ length line) × (row ≡ in_front line out)
+module _ (line out : List ℕ) {r : Result ℕ Refusal} {row : List ℕ} (w : LineWritten line out r row) where
+  has_room : {bytes : ℕ} → r ≡ Ok bytes → (length line ≤ length out) × (bytes ≡ length line) × (row ≡ in_front line out)
   unfolding line_answer line_row
   has_room e =
       ⊎_elim (λ t. let same = sym e ∙ (rw t at w.answer) in never cc)
       (λ t. let same = sym e ∙ (rw t at w.answer) in (ltb-false _ _ t, cc, rw t at w.kept))
       (true_or_false (ltb (length out) (length line)))
 
-  lacks_room : {f : Refusal} → r ≡ written.Refused f → (length out < length line) × (f ≡ no_room) × (row ≡ out)
+  lacks_room : {f : Refusal} → r ≡ Err f → (length out < length line) × (f ≡ no_room) × (row ≡ out)
   unfolding line_answer line_row
   lacks_room e =
       ⊎_elim (λ t. let same = sym e ∙ (rw t at w.answer) in (ltb-true _ _ t, cc, rw t at w.kept))
@@ -66,8 +65,8 @@ module _ (line out : List ℕ) (at : ℕ) (within : at ≤ length out) where
   behind : drop (length out - at) (drop at out) ≡ []
   behind = drop_of_length-le (drop at out) {i = length out - at} (omega (arith, length-drop at out))
 
-  module _ {r : Written} {row : List ℕ} (w : LineWritten line part r row) where
-    pub not_added : {f : Refusal} → r ≡ written.Refused f → Added line at out 0 (take at out ++ (row ++ drop (length out - at) (drop at out)))
+  module _ {r : Result ℕ Refusal} {row : List ℕ} (w : LineWritten line part r row) where
+    pub not_added : {f : Refusal} → r ≡ Err f → Added line at out 0 (take at out ++ (row ++ drop (length out - at) (drop at out)))
     unfolding if_fits
     not_added e =
         let h = lacks_room line part w e in
@@ -76,7 +75,7 @@ module _ (line out : List ℕ) (at : ℕ) (within : at ≤ length out) where
         let here : at + 0 ≡ at = omega arith in
         record { many = rw t; row_is = rw (t, behind, kept, append-nil, here) }
 
-    pub added : {bytes : ℕ} → r ≡ written.Line bytes → Added line at out bytes (take at out ++ (row ++ drop (length out - at) (drop at out)))
+    pub added : {bytes : ℕ} → r ≡ Ok bytes → Added line at out bytes (take at out ++ (row ++ drop (length out - at) (drop at out)))
     unfolding if_fits
     added e =
         let h = has_room line part w e in
@@ -86,14 +85,14 @@ module _ (line out : List ℕ) (at : ℕ) (within : at ≤ length out) where
 
 -- no line left, a first line without room, and a first line with room
 
-none_left : (out : List ℕ) → LinesWritten [] out (block.Lines 0 0) out
+none_left : (out : List ℕ) → LinesWritten [] out (Ok (lines_of 0 0)) out
 unfolding lines_answer lines_row run_answer fitting join
 none_left out = record { answer = refl; kept = refl }
 
-none_fits : (ls : List (List ℕ)) (out : List ℕ) {f : Refusal} → f ≡ no_room → length out < length (line_at 0 ls) → LinesWritten ls out (block.Refused f) out
+none_fits : (ls : List (List ℕ)) (out : List ℕ) {f : Refusal} → f ≡ no_room → length out < length (line_at 0 ls) → LinesWritten ls out (Err f) out
 unfolding lines_answer lines_row run_answer fitting join line_at
 none_fits [] out is h = absurd (omega arith)
-none_fits (l ∷ ls) out is h = let t = lt-ltb (length out) (length l) h in record { answer = rw t (ap block.Refused is); kept = rw t }
+none_fits (l ∷ ls) out is h = let t = lt-ltb (length out) (length l) h in record { answer = rw t (ap Err is); kept = rw t }
 
 first_fits : (ls : List (List ℕ)) (room : ℕ) → length (line_at 0 ls) ≤ room → line_at 0 (fitting room ls) ≡ line_at 0 ls
 unfolding fitting line_at
@@ -101,7 +100,7 @@ first_fits [] room h = refl
 first_fits (l ∷ ls) room h = rw (le-ltb room (length l) h)
 
 pub some_fit : (ls : List (List ℕ)) (room : ℕ) → length (line_at 0 ls) ≤ room
-    → run_answer ls (fitting room ls) ≡ block.Lines (length (fitting room ls)) (length (join (fitting room ls)))
+    → run_answer ls (fitting room ls) ≡ Ok (lines_of (length (fitting room ls)) (length (join (fitting room ls))))
 unfolding fitting line_at run_answer join
 some_fit [] room h = refl
 some_fit (l ∷ ls) room h = rw (le-ltb room (length l) h)
@@ -120,11 +119,11 @@ join_first (l ∷ ls) = refl
 front_twice : (bytes more out : List ℕ) → in_front (bytes ++ more) (in_front bytes out) ≡ in_front (bytes ++ more) out
 front_twice bytes more out = rw (length-append, drop-append-add, drop-drop)
 
-module _ (ls : List (List ℕ)) (out : List ℕ) {r : Written} {row : List ℕ} (w : LineWritten (line_at 0 ls) out r row) where
-  lines_refused : {f g : Refusal} → g ≡ no_room → r ≡ written.Refused f → LinesWritten ls out (block.Refused g) row
+module _ (ls : List (List ℕ)) (out : List ℕ) {r : Result ℕ Refusal} {row : List ℕ} (w : LineWritten (line_at 0 ls) out r row) where
+  lines_refused : {f g : Refusal} → g ≡ no_room → r ≡ Err f → LinesWritten ls out (Err g) row
   lines_refused is e = let h = lacks_room (line_at 0 ls) out w e in rw h.2 (none_fits ls out is h.0)
 
-  module _ {first : ℕ} (e : r ≡ written.Line first) where
+  module _ {first : ℕ} (e : r ≡ Ok first) where
     abbrev fits : length (line_at 0 ls) ≤ length out
     fits = (has_room (line_at 0 ls) out w e).0
 
@@ -148,7 +147,7 @@ module _ (ls : List (List ℕ)) (out : List ℕ) {r : Written} {row : List ℕ} 
               (sym (ap (drop (length (line_at 0 ls))) row_is ∙ drop_at (line_at 0 ls) (drop (length (line_at 0 ls)) out) (length (line_at 0 ls)) refl)));
         }
 
-    lines_ran : {b : Block} {after : List ℕ} → Ran ls row b after → LinesWritten ls out b after
+    lines_ran : {b : Result Lines Refusal} {after : List ℕ} → Ran ls row b after → LinesWritten ls out b after
     unfolding lines_answer lines_row
     lines_ran ran =
         let fit = fitting (length out) ls in
@@ -165,20 +164,20 @@ module _ (ls : List (List ℕ)) (out : List ℕ) {r : Written} {row : List ℕ} 
 -- the one line of a refusal
 
 module _ (index : ℕ) (told : Refusal) (out : List ℕ) where
-  pub refusal_none : 0 < index → LinesWritten (drop index (refusal_lines told)) out (block.Lines 0 0) out
+  pub refusal_none : 0 < index → LinesWritten (drop index (refusal_lines told)) out (Ok (lines_of 0 0)) out
   refusal_none h = rw (drop_of_length-le (refusal_lines told) {i = index} (omega arith)) (none_left out)
 
-  module _ {r : Written} {row : List ℕ} (first : index ≡ 0) (w : LineWritten (spell_line (refusal_bytes told)) out r row) where
+  module _ {r : Result ℕ Refusal} {row : List ℕ} (first : index ≡ 0) (w : LineWritten (spell_line (refusal_bytes told)) out r row) where
     first_line : LineWritten (line_at 0 (refusal_lines told)) out r row
     unfolding line_at
     first_line = w
 
-    pub refusal_short : {f : Refusal} → r ≡ written.Refused f → LinesWritten (drop index (refusal_lines told)) out (block.Refused f) row
+    pub refusal_short : {f : Refusal} → r ≡ Err f → LinesWritten (drop index (refusal_lines told)) out (Err f) row
     refusal_short e =
         let h = lacks_room (spell_line (refusal_bytes told)) out w e in
         rw first (lines_refused (refusal_lines told) out first_line h.1 e)
 
-    pub refusal_whole : {bytes : ℕ} → r ≡ written.Line bytes → LinesWritten (drop index (refusal_lines told)) out (block.Lines 1 bytes) row
+    pub refusal_whole : {bytes : ℕ} → r ≡ Ok bytes → LinesWritten (drop index (refusal_lines told)) out (Ok (lines_of 1 bytes)) row
     unfolding lines_answer lines_row run_answer fitting join
     refusal_whole e =
         let h = has_room (spell_line (refusal_bytes told)) out w e in
@@ -223,14 +222,14 @@ module _ (n : Network) (labels row : List ℕ) where
   told_first index = told_at index ∙ sym (drop_first index (drawn_lines n labels row))
 
   -- a run of lines where labels and marks have room, and where not
-  block_made : {index : ℕ} {out : List ℕ} {b : Block} {after : List ℕ} → either_short (size n) labels row ≡ false
+  block_made : {index : ℕ} {out : List ℕ} {b : Result Lines Refusal} {after : List ℕ} → either_short (size n) labels row ≡ false
       → LinesWritten (drop index (drawn_lines n labels row)) out b after
       → BlockAnswered index (network n) labels row out b after
   unfolding block_answer block_row
   block_made t w = record { answer = rw t w.answer; kept = rw t w.kept }
 
   -- and what is answered where they have room
-  pub block_written : {index : ℕ} {out : List ℕ} {b : Block} {after : List ℕ} → size n ≤ length labels → size n ≤ length row
+  pub block_written : {index : ℕ} {out : List ℕ} {b : Result Lines Refusal} {after : List ℕ} → size n ≤ length labels → size n ≤ length row
       → BlockAnswered index (network n) labels row out b after
       → LinesWritten (drop index (drawn_lines n labels row)) out b after
   unfolding block_answer block_row
@@ -238,20 +237,20 @@ module _ (n : Network) (labels row : List ℕ) where
       let t = room (size n) labels row h l in record { answer = rw t at a.answer; kept = rw t at a.kept }
 
   -- the first line's answer
-  module _ {index : ℕ} {out : List ℕ} {r : Written} {row' : List ℕ} (a : LineAnswered index (network n) labels row out r row') where
+  module _ {index : ℕ} {out : List ℕ} {r : Result ℕ Refusal} {row' : List ℕ} (a : LineAnswered index (network n) labels row out r row') where
     first_written : either_short (size n) labels row ≡ false → LineWritten (line_at 0 (drop index (drawn_lines n labels row))) out r row'
     unfolding told_answer told_row
     first_written t = rw (← told_first index) (record { answer = rw t at a.answer; kept = rw t at a.kept })
 
-    pub first_refused : {f g : Refusal} → g ≡ no_room → r ≡ written.Refused f
-        → BlockAnswered index (network n) labels row out (block.Refused g) row'
+    pub first_refused : {f g : Refusal} → g ≡ no_room → r ≡ Err f
+        → BlockAnswered index (network n) labels row out (Err g) row'
     unfolding told_row block_answer block_row
     first_refused is e =
-        ⊎_elim (λ t. record { answer = rw t (ap block.Refused is); kept = rw t (rw t at a.kept) })
+        ⊎_elim (λ t. record { answer = rw t (ap Err is); kept = rw t (rw t at a.kept) })
         (λ t. block_made t (lines_refused (drop index (drawn_lines n labels row)) out (first_written t) is e))
         (true_or_false (either_short (size n) labels row))
 
-    module _ {first : ℕ} (e : r ≡ written.Line first) where
+    module _ {first : ℕ} (e : r ≡ Ok first) where
       roomy : either_short (size n) labels row ≡ false
       unfolding told_answer
       roomy =
@@ -265,7 +264,7 @@ module _ (n : Network) (labels row : List ℕ) where
       pub first_begun : Begun (drop index (drawn_lines n labels row)) first row'
       first_begun = lines_begun (drop index (drawn_lines n labels row)) out (first_written roomy) e
 
-      pub first_ran : {b : Block} {after : List ℕ} → Ran (drop index (drawn_lines n labels row)) row' b after
+      pub first_ran : {b : Result Lines Refusal} {after : List ℕ} → Ran (drop index (drawn_lines n labels row)) row' b after
           → BlockAnswered index (network n) labels row out b after
       first_ran ran = block_made roomy (lines_ran (drop index (drawn_lines n labels row)) out (first_written roomy) e ran)
 
@@ -273,11 +272,11 @@ module _ (n : Network) (labels row : List ℕ) where
 
 module _ {reading : Reading} where
   pub block_refused : {f : Refusal} (index : ℕ) (labels row out : List ℕ) → reading ≡ refused f
-      → BlockAnswered index reading labels row out (block.Refused f) out
+      → BlockAnswered index reading labels row out (Err f) out
   unfolding block_answer block_row
   block_refused index labels row out e = record { answer = rw e; kept = rw e }
 
-  pub block_told : {n : Network} {index : ℕ} {labels row out : List ℕ} {b : Block} {after : List ℕ} → reading ≡ network n
+  pub block_told : {n : Network} {index : ℕ} {labels row out : List ℕ} {b : Result Lines Refusal} {after : List ℕ} → reading ≡ network n
       → BlockAnswered index (network n) labels row out b after
       → BlockAnswered index reading labels row out b after
   block_told e a = record { answer = rw e a.answer; kept = rw e a.kept }

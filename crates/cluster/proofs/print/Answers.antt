@@ -1,9 +1,9 @@
 -- `cluster::print` meets its contract: each block begins behind the one before it, and the loop ends behind the last line.
+use Rattle.std.specs.Prelude.{Result, Ok, Err}
 use mathlib.Core.Path.{refl, ap}
 use mathlib.Core.Logic.{inl, inr}
 use native.Mathlib.Omega.{arith}
 use Rattle.cluster.specs.Printing.{first}
-use Rattle.cluster.specs.declared.Printed.TheVariants.{Lines}
 use Rattle.cluster.proofs.Blocks.{begins_few, goes_on, at_last}
 use Rattle.cluster.proofs.print.Goals as goal
 
@@ -24,7 +24,7 @@ pub returns-then-count-eq0 : goal.returns-then-count-eq0
 returns-then-count-eq0 c t =
     let loop = c.loop-count in
     let printed = rw c.in-Lines.is at c.print_block-printed.ensures in
-    inl (ap Lines (at_last t (loop.invariant.1 t) loop.invariant.0 printed (omega arith) (omega arith)))
+    inl (ap Ok (at_last t (loop.invariant.1 t) loop.invariant.0 printed (omega arith) (omega arith)))
 
 pub loop-count-preserved : goal.loop-count-preserved
 loop-count-preserved c =

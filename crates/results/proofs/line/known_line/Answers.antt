@@ -1,4 +1,6 @@
 -- `results::line::known_line` meets its contract: the 11, a 12 for each gate, and the lines behind them.
+use Rattle.std.specs.Prelude.{Result, Ok, Err}
+use Rattle.frames.specs.declared.Refusal.{Refusal}
 use Prim.Native.Nat.{ℕ, ◌-◌, ◌≤◌, ◌<◌, ◌^◌}
 use mathlib.Core.Path.{◌≡◌, sym, ◌∙◌, ap}
 use mathlib.Core.Logic.{inl, inr}
@@ -8,7 +10,6 @@ use lib.ListN.{get_or}
 use Rattle.model.specs.Network.{size}
 use Rattle.units.specs.Units.{held}
 use Rattle.frames.specs.Put.{LineWritten, line_at}
-use Rattle.frames.specs.declared.Written.{Written}
 use Rattle.texts.specs.Reading as reading
 use Rattle.rows.specs.Row.{network_in}
 use Rattle.rows.proofs.Holds.{network_size, few_gates}
@@ -41,7 +42,7 @@ overflow_cast-clusters c =
 pub returns-then-index-eq0 : goal.returns-then-index-eq0
 returns-then-index-eq0 c =
     let gates-are : size ((network_in c.args.header c.args.row.now)) ≡ c.args.header.gates = network_size c.args.header c.args.row.now in
-    let made : (r : Written) → (after : List ℕ) → let a = c.args in LineWritten (line_at a.index (result_lines ((network_in c.args.header c.args.row.now)) a.labels.now ((roots c.args.marks.now c.args.header.gates)))) a.out.now r after → LineAnswered a.index (reading.network ((network_in c.args.header c.args.row.now))) a.labels.now a.marks.now a.out.now r after = λ r after w. let a = c.args in
+    let made : (r : Result ℕ Refusal) → (after : List ℕ) → let a = c.args in LineWritten (line_at a.index (result_lines ((network_in c.args.header c.args.row.now)) a.labels.now ((roots c.args.marks.now c.args.header.gates)))) a.out.now r after → LineAnswered a.index (reading.network ((network_in c.args.header c.args.row.now))) a.labels.now a.marks.now a.out.now r after = λ r after w. let a = c.args in
     told_made ((network_in c.args.header c.args.row.now)) a.header.gates a.labels.now a.marks.now (gates-are) a.index a.out.now
     (omega (arith, c.if-labels-gates.false))
     c.if-marks-gates.false
@@ -62,7 +63,7 @@ overflow_cast-gate c =
 pub returns-then-gate-gates : goal.returns-then-gate-gates
 returns-then-gate-gates c =
     let gates-are : size ((network_in c.args.header c.args.row.now)) ≡ c.args.header.gates = network_size c.args.header c.args.row.now in
-    let made : (r : Written) → (after : List ℕ) → let a = c.args in LineWritten (line_at a.index (result_lines ((network_in c.args.header c.args.row.now)) a.labels.now ((roots c.args.marks.now c.args.header.gates)))) a.out.now r after → LineAnswered a.index (reading.network ((network_in c.args.header c.args.row.now))) a.labels.now a.marks.now a.out.now r after = λ r after w. let a = c.args in
+    let made : (r : Result ℕ Refusal) → (after : List ℕ) → let a = c.args in LineWritten (line_at a.index (result_lines ((network_in c.args.header c.args.row.now)) a.labels.now ((roots c.args.marks.now c.args.header.gates)))) a.out.now r after → LineAnswered a.index (reading.network ((network_in c.args.header c.args.row.now))) a.labels.now a.marks.now a.out.now r after = λ r after w. let a = c.args in
     told_made ((network_in c.args.header c.args.row.now)) a.header.gates a.labels.now a.marks.now (gates-are) a.index a.out.now
     (omega (arith, c.if-labels-gates.false))
     c.if-marks-gates.false
@@ -80,7 +81,7 @@ later_line-requires c =
 pub returns : goal.returns
 returns c =
     let gates-are : size ((network_in c.args.header c.args.row.now)) ≡ c.args.header.gates = network_size c.args.header c.args.row.now in
-    let made : (r : Written) → (after : List ℕ) → let a = c.args in LineWritten (line_at a.index (result_lines ((network_in c.args.header c.args.row.now)) a.labels.now ((roots c.args.marks.now c.args.header.gates)))) a.out.now r after → LineAnswered a.index (reading.network ((network_in c.args.header c.args.row.now))) a.labels.now a.marks.now a.out.now r after = λ r after w. let a = c.args in
+    let made : (r : Result ℕ Refusal) → (after : List ℕ) → let a = c.args in LineWritten (line_at a.index (result_lines ((network_in c.args.header c.args.row.now)) a.labels.now ((roots c.args.marks.now c.args.header.gates)))) a.out.now r after → LineAnswered a.index (reading.network ((network_in c.args.header c.args.row.now))) a.labels.now a.marks.now a.out.now r after = λ r after w. let a = c.args in
     told_made ((network_in c.args.header c.args.row.now)) a.header.gates a.labels.now a.marks.now (gates-are) a.index a.out.now
     (omega (arith, c.if-labels-gates.false))
     c.if-marks-gates.false
