@@ -22,14 +22,14 @@ use Rattle.frames.specs.Put.{line_at, line_answer, line_row, LineWritten}
 use Rattle.texts.specs.Reading.{Reading, refused, network}
 use Rattle.texts.specs.Spelling.{join}
 use Rattle.labelling.specs.Promises.{either_short}
-use Rattle.labelling.proofs.Room.{room}
 use Rattle.selection.specs.Selection.{roots}
 use Rattle.selection.proofs.Roots.{roots_few}
 use Rattle.results.specs.Result.{result_lines, refusal_bytes}
-use Rattle.results.specs.Line.{told_line, told_answer, told_row, LineAnswered}
+use Rattle.results.specs.Line.{told_line}
 use Rattle.results.specs.Block.{fitting, run_answer, in_front, lines_answer, lines_row, LinesWritten, drawn_lines, block_answer, block_row, BlockAnswered, refusal_lines}
 use Rattle.results.specs.steps.Line.{later_lines}
 use Rattle.results.specs.steps.Block.{if_fits, Added, Begun, Ran}
+use Rattle.results.specs.steps.Marked.{refusing}
 use Rattle.results.proofs.Lengths.{line_length, result_count}
 use Rattle.results.proofs.LineAt.{first_at, label_at, later_at, cluster_at, end_at}
 use Rattle.results.proofs.Fitting.{Full, length_front, drop_first}
@@ -147,13 +147,13 @@ module _ (ls : List (List ℕ)) (out : List ℕ) {r : Result ℕ Refusal} {row :
               (sym (ap (drop (length (line_at 0 ls))) row_is ∙ drop_at (line_at 0 ls) (drop (length (line_at 0 ls)) out) (length (line_at 0 ls)) refl)));
         }
 
-    lines_ran : {b : Result Lines Refusal} {after : List ℕ} → Ran ls row b after → LinesWritten ls out b after
+    lines_ran : {b : Lines} {after : List ℕ} → Ran ls row b after → LinesWritten ls out (Ok b) after
     unfolding lines_answer lines_row
     lines_ran ran =
         let fit = fitting (length out) ls in
         let parts : join fit ≡ line_at 0 ls ++ join (drop 1 fit) = join_first fit ∙ ap (λ (l : List ℕ). l ++ join (drop 1 fit)) (first_fits ls (length out) fits) in
         record {
-          answer = (rw same_length at ran.answer) ∙ sym (some_fit ls (length out) fits);
+          answer = ap (λ k. Ok k) (rw same_length at ran.answer) ∙ sym (some_fit ls (length out) fits);
           kept =
               (rw (same_length, row_is) at ran.kept)
               ∙ ap (λ (bytes : List ℕ). in_front bytes (in_front (line_at 0 ls) out)) parts
@@ -221,62 +221,35 @@ module _ (n : Network) (labels row : List ℕ) where
   told_first : (index : ℕ) → told_line index n labels row ≡ line_at 0 (drop index (drawn_lines n labels row))
   told_first index = told_at index ∙ sym (drop_first index (drawn_lines n labels row))
 
-  -- a run of lines where labels and marks have room, and where not
-  block_made : {index : ℕ} {out : List ℕ} {b : Result Lines Refusal} {after : List ℕ} → either_short (size n) labels row ≡ false
-      → LinesWritten (drop index (drawn_lines n labels row)) out b after
-      → BlockAnswered index (network n) labels row out b after
-  unfolding block_answer block_row
-  block_made t w = record { answer = rw t w.answer; kept = rw t w.kept }
+  -- the first line of those that are left decides
+  module _ {index : ℕ} {out : List ℕ} {r : Result ℕ Refusal} {row' : List ℕ} (w : LineWritten (told_line index n labels row) out r row') where
+    first_written : LineWritten (line_at 0 (drop index (drawn_lines n labels row))) out r row'
+    first_written = rw (← told_first index) w
 
-  -- and what is answered where they have room
-  pub block_written : {index : ℕ} {out : List ℕ} {b : Result Lines Refusal} {after : List ℕ} → size n ≤ length labels → size n ≤ length row
-      → BlockAnswered index (network n) labels row out b after
-      → LinesWritten (drop index (drawn_lines n labels row)) out b after
-  unfolding block_answer block_row
-  block_written h l a =
-      let t = room (size n) labels row h l in record { answer = rw t at a.answer; kept = rw t at a.kept }
-
-  -- the first line's answer
-  module _ {index : ℕ} {out : List ℕ} {r : Result ℕ Refusal} {row' : List ℕ} (a : LineAnswered index (network n) labels row out r row') where
-    first_written : either_short (size n) labels row ≡ false → LineWritten (line_at 0 (drop index (drawn_lines n labels row))) out r row'
-    unfolding told_answer told_row
-    first_written t = rw (← told_first index) (record { answer = rw t at a.answer; kept = rw t at a.kept })
-
-    pub first_refused : {f g : Refusal} → g ≡ no_room → r ≡ Err f
-        → BlockAnswered index (network n) labels row out (Err g) row'
-    unfolding told_row block_answer block_row
-    first_refused is e =
-        ⊎_elim (λ t. record { answer = rw t (ap Err is); kept = rw t (rw t at a.kept) })
-        (λ t. block_made t (lines_refused (drop index (drawn_lines n labels row)) out (first_written t) is e))
-        (true_or_false (either_short (size n) labels row))
+    pub first_refused : {f : Refusal} → r ≡ Err f → LinesWritten (drop index (drawn_lines n labels row)) out (Err f) row'
+    first_refused e =
+        let ls = drop index (drawn_lines n labels row) in
+        lines_refused ls out first_written (lacks_room (line_at 0 ls) out first_written e).1 e
 
     module _ {first : ℕ} (e : r ≡ Ok first) where
-      roomy : either_short (size n) labels row ≡ false
-      unfolding told_answer
-      roomy =
-          ⊎_elim (λ t. let same = sym e ∙ (rw t at a.answer) in never cc) (λ t. t)
-          (true_or_false (either_short (size n) labels row))
-
-      pub first_rooms : (size n ≤ length labels) × (size n ≤ length row)
-      first_rooms =
-          let t = neither_true (ltb (length labels) (size n)) (ltb (length row) (size n)) roomy in (ltb-false _ _ t.0, ltb-false _ _ t.1)
-
       pub first_begun : Begun (drop index (drawn_lines n labels row)) first row'
-      first_begun = lines_begun (drop index (drawn_lines n labels row)) out (first_written roomy) e
+      first_begun = lines_begun (drop index (drawn_lines n labels row)) out first_written e
 
-      pub first_ran : {b : Result Lines Refusal} {after : List ℕ} → Ran (drop index (drawn_lines n labels row)) row' b after
-          → BlockAnswered index (network n) labels row out b after
-      first_ran ran = block_made roomy (lines_ran (drop index (drawn_lines n labels row)) out (first_written roomy) e ran)
+      pub first_ran : {b : Lines} {after : List ℕ} → Ran (drop index (drawn_lines n labels row)) row' b after
+          → LinesWritten (drop index (drawn_lines n labels row)) out (Ok b) after
+      first_ran ran = lines_ran (drop index (drawn_lines n labels row)) out first_written e ran
 
--- a refusal handed on, and a network's answer
+-- a refusal of the rows handed over, and the lines of what they hold
 
-module _ {reading : Reading} where
-  pub block_refused : {f : Refusal} (index : ℕ) (labels row out : List ℕ) → reading ≡ refused f
-      → BlockAnswered index reading labels row out (Err f) out
-  unfolding block_answer block_row
-  block_refused index labels row out e = record { answer = rw e; kept = rw e }
+pub block_refused : (reading : Reading) (index : ℕ) (labels row out : List ℕ) {f : Refusal} → refusing reading labels row f
+    → BlockAnswered index reading labels row out (Err f) out
+unfolding block_answer block_row
+block_refused (refused g) index labels row out h = record { answer = ap (λ k. Err k) h; kept = refl }
+block_refused (network n) index labels row out h = record { answer = rw h.0 (ap (λ k. Err k) h.1); kept = rw h.0 }
 
-  pub block_told : {n : Network} {index : ℕ} {labels row out : List ℕ} {b : Result Lines Refusal} {after : List ℕ} → reading ≡ network n
-      → BlockAnswered index (network n) labels row out b after
-      → BlockAnswered index reading labels row out b after
-  block_told e a = record { answer = rw e a.answer; kept = rw e a.kept }
+pub block_told : {reading : Reading} {n : Network} {labels row : List ℕ} (index : ℕ) (out : List ℕ) {b : Result Lines Refusal} {after : List ℕ}
+    → reading ≡ network n → either_short (size n) labels row ≡ false
+    → LinesWritten (drop index (drawn_lines n labels row)) out b after
+    → BlockAnswered index reading labels row out b after
+unfolding block_answer block_row
+block_told index out e t w = record { answer = rw (e, t) w.answer; kept = rw (e, t) w.kept }
