@@ -30,7 +30,7 @@ use Rattle.labelling.specs.declared.labelled.Labelled.{Labelled}
 use Rattle.labelling.specs.WithLabels.{WithLabels}
 use Rattle.labelling.proofs.Room.{short, room}
 use Rattle.labelling.proofs.WithLabels.{unlabelled}
-use Rattle.labelling.specs.Promises.{written, label_answer, label_row, LabelledInto, either_short, cluster_answer, cluster_row, ClusteredInto, Found}
+use Rattle.labelling.specs.Promises.{label_answer, label_row, LabelledInto, either_short, cluster_answer, cluster_row, ClusteredInto, Found}
 
 -- a root that is no gate has no members
 no_members : (n : Network) (labels : List ℕ) (r : ℕ) → size n ≤ r → members_of n labels r ≡ []

@@ -1,6 +1,6 @@
 -- [T4] No second outcome meets a contract of `labelling`.
 use Rattle.std.specs.Prelude.{◌≡◌, ℕ, List, cond, true, false, length, ltb, Result, Ok, Err}
-use mathlib.Core.Path.{refl, sym, ◌∙◌}
+use mathlib.Core.Path.{sym, ◌∙◌}
 use mathlib.Core.Logic.{⊎_elim}
 use borrow.Author.Tests.{lt-ltb}
 use Rattle.model.proofs.Lists.{true_or_false}

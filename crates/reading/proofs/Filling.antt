@@ -1,13 +1,12 @@
 -- The second pass: gates put into their blocks one by one, until the walk ends, fill the row.
 use Prim.Native.Nat.{ℕ, zero, suc, ◌+◌, ◌*◌, ◌-◌, ◌≤◌, ◌<◌}
+use Rattle.std.specs.Prelude.{Ok, Err}
 use mathlib.Core.Path.{◌≡◌, refl, sym, ap, ◌∙◌}
-use mathlib.Core.Bool.{Bool, true, false, cond, ◌&&◌}
 use mathlib.Core.List.Memᴰ
 use mathlib.Core.List.{List, [], ◌∷◌, ◌++◌, append_assoc, append-nil}
 use native.Mathlib.Omega.{arith}
 use native.Mathlib.Numerals.{add-one}
 use borrow.Author.Tests.{le-leb, lt-ltb, ltb-false}
-use lib.Dec.{ltb}
 use lib.ListN.{length, get_or, take, drop, set, replicate, take-append-drop, length-append, length-drop, length-set, length-replicate, replicate-append-replicate}
 use lib.Seq.{sets, set_at, append_snoc, length-take-le, drop-drop}
 use Rattle.model.specs.Basics.{◌∈◌}
@@ -17,10 +16,12 @@ use Rattle.units.specs.declared.Cells.{Cells}
 use Rattle.units.specs.declared.Ticks.{Ticks}
 use Rattle.units.specs.declared.FanInCount.{FanInCount}
 use Rattle.units.specs.Units.{weight_place, delay_place, count_place}
+use Rattle.frames.specs.declared.Refusal.{Refusal}
 use Rattle.frames.specs.Frames.{fan_in_from, line_read}
 use Rattle.frames.specs.Text.{lines}
 use Rattle.frames.specs.declared.Place.TheVariants.{Opening, AfterGates}
 use Rattle.frames.specs.declared.LineRead.{LineRead}
+use Rattle.frames.proofs.Tests.{never}
 use Rattle.texts.specs.Reading.{network, nothing_read, at_the_end, walk, reading}
 use Rattle.texts.proofs.Accepted.{walk_gates}
 use Rattle.texts.proofs.AcceptedNetwork.{rising_below}
@@ -28,22 +29,11 @@ use Rattle.texts.proofs.Table.{walk_whole, reading_exactly}
 use Rattle.rows.specs.Row.{places, too_short, has_block, block_of, blocks, fill, gate_put, fanin_put}
 use Rattle.rows.specs.Read.{filled}
 use Rattle.reading.specs.steps.Passes.{header_only, with_fan_ins, FitsInto}
-use Rattle.reading.proofs.LinesRead.{NoHeader, NoGate, with_one, HeaderRead, GateRead, no_header, no_more_gates, no_network}
+use Rattle.reading.proofs.LinesRead.{NoHeader, NoGate, with_one, HeaderRead, GateRead, never_refused, no_header, no_more_gates}
 
 -- the fan-ins of one gate, put one by one
 
-pub length_fanin_put : (v i x : ℕ) (row : List ℕ) → length (fanin_put v i x row) ≡ length row
-unfolding fanin_put
-length_fanin_put v i x row = either (has_block row v && ltb i most_fanins)
-  where
-    either : (t : Bool) → length (cond t (set row (places * v + (3 + i)) x) row) ≡ length row
-    either true = length-set row (places * v + (3 + i)) x
-    either false = refl
-
 module _ (text : List ℕ) (at v count : ℕ) where
-  pub fan_ins_first : (row : List ℕ) → with_fan_ins text at v 0 (count - 0) row ≡ with_fan_ins text at v 0 count row
-  fan_ins_first row = let e : count - 0 ≡ count = omega arith in rw e
-
   pub fan_ins_more : (row : List ℕ) (i : ℕ) → i < count
       → with_fan_ins text at v (i + 1) (count - (i + 1)) (fanin_put v i (fan_in_from text at i) row)
       ≡ with_fan_ins text at v i (count - i) row
@@ -238,26 +228,28 @@ module _
               (fill_more gs before text at gates weight delay count next r f.counted f.even (omega (arith, inside, enough f.fits)));
         }
 
--- A text that fits into the row opens with a header.
-pub opens : (text row : List ℕ) → FitsInto text row
-    → (r : LineRead) → r ≡ line_read text 0 Opening 1 → NoHeader r → ⊥
-opens text row f r answers other =
-    no_network r 1 f.whole (sym (no_header text 0 1 nothing_read r answers other) ∙ walk_read text f.whole f.reads)
+-- A text that fits into the row opens with a header: its first line is nothing else, and it is not refused.
+module _ (text row : List ℕ) (f : FitsInto text row) where
+  pub opens : {r : LineRead} → line_read text 0 Opening 1 ≡ Ok r → NoHeader r → ⊥
+  opens {r = r} answers other = let e = sym (no_header text 0 1 nothing_read r answers other) ∙ walk_read text f.whole f.reads in never cc
+
+  pub opens_unrefused : {r : Refusal} → line_read text 0 Opening 1 ≡ Err r → ⊥
+  opens_unrefused answers = never_refused text 0 Opening 1 answers nothing_read f.whole refl (walk_read text f.whole f.reads)
+
+-- On the way no line is refused.
+pub unrefused : (text before row : List ℕ) (at gates : ℕ) → Filling text before row at gates → {r : Refusal}
+    → line_read text at (AfterGates gates) (gates + 2) ≡ Err r → ⊥
+unrefused text before row at gates f answers =
+    never_refused text at (AfterGates gates) (gates + 2) answers f.so_far f.fits.whole refl f.on
 
 -- Where no gate is read, the walk is at its end.
 module _
     (text before row : List ℕ) (at gates : ℕ) (f : Filling text before row at gates)
-    (r : LineRead) (answers : r ≡ line_read text at (AfterGates gates) (gates + 2)) (other : NoGate r)
+    {r : LineRead} (answers : line_read text at (AfterGates gates) (gates + 2) ≡ Ok r) (other : NoGate r)
   where
     all_read : f.so_far ≡ f.fits.whole
-    all_read = no_more_gates text at gates r answers other f.so_far f.fits.whole f.on
+    all_read = no_more_gates text at gates answers other f.so_far f.fits.whole f.on
 
     pub done : row ≡ filled (reading text) before
     unfolding filled
     done = rw f.fits.reads (rw all_read at f.stands)
-
-    pub same_length : length row ≡ length before
-    unfolding fill size
-    same_length =
-        let whole = ap size all_read in
-        rw f.stands (simp (length-append, length-drop) (omega (arith, f.even, f.counted, enough f.fits)))

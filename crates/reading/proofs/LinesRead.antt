@@ -1,6 +1,7 @@
 -- What a line's answer says of the walk over the lines that are left: a frame goes on behind its line, and anything else
 -- is told.
 use Prim.Native.Nat.{ℕ, ◌+◌, ◌<◌}
+use Rattle.std.specs.Prelude.{Result, Ok, Err}
 use mathlib.Core.Path.{◌≡◌, refl, sym, ap, ◌∙◌}
 use mathlib.Core.Logic.{◌⊎◌, inl, inr, ⊎_elim}
 use mathlib.Core.Bool.{true, false}
@@ -32,24 +33,24 @@ use Rattle.frames.specs.steps.Cut.{line_from, line_length}
 use Rattle.frames.proofs.Rows.{faultless}
 use Rattle.frames.proofs.Lines.{lines_from, end_most, read_first, read_past}
 use Rattle.frames.proofs.FanIns.{fan_ins_read}
-use Rattle.texts.specs.Reading.{refused, network, at_the_end, walk, nothing_read, take_in, weigh}
+use Rattle.texts.specs.Reading.{refused, network, at_the_end, walk, nothing_read, take_in}
 use Rattle.frames.proofs.Tests.{never}
 use Rattle.texts.proofs.Faultless.{Fit, gate_line, closed_line}
 use Rattle.texts.proofs.Accepted.{walk_closed}
 use Rattle.texts.proofs.Table.{walk_clean, walk_faulty}
-use Rattle.reading.specs.steps.Passes.{refusal_of, header_only}
+use Rattle.reading.specs.steps.Passes.{header_only}
 
 -- What is read at a place of the text: the text ends there; or its line has a fault; or it is a frame, behind which the
 -- other lines stand.
-data View (text : List ℕ) (at : ℕ) (p : Place) (line : ℕ) (r : LineRead) : Type 0 where
-  nothing : lines (drop at text) ≡ [] → r ≡ read.Nothing → View text at p line r
+data View (text : List ℕ) (at : ℕ) (p : Place) (line : ℕ) (r : Result LineRead Refusal) : Type 0 where
+  nothing : lines (drop at text) ≡ [] → r ≡ Ok read.Nothing → View text at p line r
   faulty :
       (l : Line) (ls : List Line) (k : ℕ) →
-      lines (drop at text) ≡ l ∷ ls → fault p l ≡ some k → r ≡ read.Refused (at_column k line (column k l)) → View text at p line r
+      lines (drop at text) ≡ l ∷ ls → fault p l ≡ some k → r ≡ Err (at_column k line (column k l)) → View text at p line r
   clean :
       (l : Line) (next : ℕ) →
       at < length text →
-      at < next → lines (drop at text) ≡ l ∷ lines (drop next text) → fault p l ≡ none → r ≡ frame l next → View text at p line r
+      at < next → lines (drop at text) ≡ l ∷ lines (drop next text) → fault p l ≡ none → r ≡ Ok (frame l next) → View text at p line r
 
 -- the first line, up to `end`
 module _ (text : List ℕ) (at : ℕ) (inside : at < length text) (p : Place) (line : ℕ) where
@@ -83,6 +84,24 @@ view text at p line =
       | yes h ↦ view_line text at h p line
       | no h ↦ nothing (unfold lines in ap lines (drop_of_length-le text {i = at} (omega arith))) (sym (read_past text at p line (omega arith)))
     ]
+
+module _ (text : List ℕ) (at : ℕ) (p : Place) (line : ℕ) {r : Result LineRead Refusal} (answers : line_read text at p line ≡ r) where
+  viewed : View text at p line r
+  viewed = rw answers at (view text at p line)
+
+  -- A line that is refused is told by the walk.
+  pub refused_there : (n : Network) {f : Refusal} → r ≡ Err f → walk p line n (lines (drop at text)) ≡ refused f
+  unfolding walk
+  refused_there n {f = f} e = go viewed
+    where
+      go : View text at p line r → walk p line n (lines (drop at text)) ≡ refused f
+      go (nothing h g) = never cc
+      go (faulty l ls k h g i) = rw h (walk_faulty p line n l ls k g ∙ cc)
+      go (clean l next inside ahead h g i) = never cc
+
+  -- A walk that ends in a network refuses none.
+  pub never_refused : (n m : Network) {f : Refusal} → r ≡ Err f → walk p line n (lines (drop at text)) ≡ network m → ⊥
+  never_refused n m e w = let told = refused_there n e in never cc
 
 -- the frame of a line without fault, by its place
 
@@ -125,16 +144,16 @@ abbrev pub HeaderRead : List ℕ → Cells → Ticks → ℕ → Type 0
 HeaderRead text capacity hop next =
     walk Opening 1 nothing_read (lines text) ≡ walk (AfterGates 0) 2 (header_only capacity hop) (lines (drop next text))
 
-pub header_read : (text : List ℕ) (r : LineRead) → r ≡ line_read text 0 Opening 1
-    → (capacity : Cells) (hop : Ticks) (next : ℕ) → r ≡ read.Header capacity hop next → HeaderRead text capacity hop next
+pub header_read : (text : List ℕ) (capacity : Cells) (hop : Ticks) (next : ℕ)
+    → line_read text 0 Opening 1 ≡ Ok (read.Header capacity hop next) → HeaderRead text capacity hop next
 unfolding next_place take_in nothing_read
-header_read text r answers capacity hop next e = go (rw answers (view text 0 Opening 1))
+header_read text capacity hop next e = go (viewed text 0 Opening 1 e)
   where
-    go : View text 0 Opening 1 r → HeaderRead text capacity hop next
+    go : View text 0 Opening 1 (Ok (read.Header capacity hop next)) → HeaderRead text capacity hop next
     go (nothing h f) = never cc
     go (faulty l ls k h g f) = never cc
     go (clean l next' inside ahead h g f) =
-        let same = sym e ∙ f ∙ opening_frame l next' g in
+        let framed = opening_frame l next' g in
         let c : header_capacity l ≡ capacity.0 = cc in
         let d : header_hop l ≡ hop.0 = cc in
         let n : next' ≡ next = cc in
@@ -172,23 +191,20 @@ module _ (v line : ℕ) (n : Network) (l : Line) (ls : List Line) (e : fault (Af
   over_end t = walk_clean (AfterGates v) line n l ls e ∙ rw (t, add-one line)
 
 -- Gate v stands in line v + 2.
-module _ (text : List ℕ) (at v : ℕ) (r : LineRead) (answers : r ≡ line_read text at (AfterGates v) (v + 2)) where
-  viewed_there : View text at (AfterGates v) (v + 2) r
-  viewed_there = rw answers (view text at (AfterGates v) (v + 2))
-
+module _ (text : List ℕ) (at v : ℕ) where
   pub gate_read : (weight : Cells) (delay : Ticks) (count : FanInCount) (next : ℕ)
-      → r ≡ read.Gate weight delay count next → GateRead text at v weight delay count next
+      → line_read text at (AfterGates v) (v + 2) ≡ Ok (read.Gate weight delay count next) → GateRead text at v weight delay count next
   unfolding gate_of
-  gate_read weight delay count next e = go viewed_there
+  gate_read weight delay count next e = go (viewed text at (AfterGates v) (v + 2) e)
     where
-      go : View text at (AfterGates v) (v + 2) r → GateRead text at v weight delay count next
+      go : View text at (AfterGates v) (v + 2) (Ok (read.Gate weight delay count next)) → GateRead text at v weight delay count next
       go (nothing h f) = never cc
       go (faulty l ls k h g f) = never cc
       go (clean l next' inside ahead h g f) =
           ⊎_elim
           (λ (t : GateFrame l next').
-          let same = sym e ∙ f ∙ t.framed in
-          let fan_ins = fan_ins_read text at (AfterGates v) (v + 2) weight delay count next l (lines (drop next' text)) h (sym answers ∙ e) in
+          let framed = t.framed in
+          let fan_ins = fan_ins_read text at (AfterGates v) (v + 2) weight delay count next l (lines (drop next' text)) h e in
           let n : next' ≡ next = cc in
           let line : v + 1 + 2 ≡ v + 2 + 1 = omega arith in
           record {
@@ -202,22 +218,22 @@ module _ (text : List ℕ) (at v : ℕ) (r : LineRead) (answers : r ≡ line_rea
             each = fan_ins.each;
             on = λ m. rw (h, ← n, line) (over_gate v (v + 2) m l (lines (drop next' text)) g t.of_type);
           })
-          (λ (t : EndFrame l next'). let same = sym e ∙ f ∙ t.framed in never cc)
+          (λ (t : EndFrame l next'). let framed = t.framed in never cc)
           (later_frame v l next' g)
 
-  pub end_read : (next : ℕ) → r ≡ read.End next → (n : Network)
+  pub end_read : (next : ℕ) → line_read text at (AfterGates v) (v + 2) ≡ Ok (read.End next) → (n : Network)
       → walk (AfterGates v) (v + 2) n (lines (drop at text)) ≡ walk Closed (v + 3) n (lines (drop next text))
-  end_read next e n = go viewed_there
+  end_read next e n = go (viewed text at (AfterGates v) (v + 2) e)
     where
-      go : View text at (AfterGates v) (v + 2) r
+      go : View text at (AfterGates v) (v + 2) (Ok (read.End next))
           → walk (AfterGates v) (v + 2) n (lines (drop at text)) ≡ walk Closed (v + 3) n (lines (drop next text))
       go (nothing h f) = never cc
       go (faulty l ls k h g f) = never cc
       go (clean l next' inside ahead h g f) =
           ⊎_elim
-          (λ (t : GateFrame l next'). let same = sym e ∙ f ∙ t.framed in never cc)
+          (λ (t : GateFrame l next'). let framed = t.framed in never cc)
           (λ (t : EndFrame l next').
-          let same = sym e ∙ f ∙ t.framed in
+          let framed = t.framed in
           let n' : next' ≡ next = cc in
           let line : v + 3 ≡ v + 2 + 1 = omega arith in
           rw (h, ← n', line) (over_end v (v + 2) n l (lines (drop next' text)) g t.other_type))
@@ -231,91 +247,62 @@ abbrev pub NoGate : LineRead → Type 0
 NoGate r = (weight : Cells) (delay : Ticks) (count : FanInCount) (next : ℕ) → r ≡ read.Gate weight delay count next → ⊥
 
 -- Where a walk that ends in a network reads no gate, it is at its end.
-pub no_more_gates : (text : List ℕ) (at v : ℕ) (r : LineRead) → r ≡ line_read text at (AfterGates v) (v + 2)
+pub no_more_gates : (text : List ℕ) (at v : ℕ) {r : LineRead} → line_read text at (AfterGates v) (v + 2) ≡ Ok r
     → NoGate r → (n m : Network)
     → walk (AfterGates v) (v + 2) n (lines (drop at text)) ≡ network m → n ≡ m
-no_more_gates text at v r answers other n m e = go (viewed_there text at v r answers)
+no_more_gates text at v {r = r} answers other n m e = go (viewed text at (AfterGates v) (v + 2) answers)
   where
-    go : View text at (AfterGates v) (v + 2) r → n ≡ m
+    go : View text at (AfterGates v) (v + 2) (Ok r) → n ≡ m
     go (nothing h f) = let z = rw h at e in unfold walk in never cc
-    go (faulty l ls k h g f) = let z = sym (walk_faulty (AfterGates v) (v + 2) n l ls k g) ∙ rw h at e in never cc
+    go (faulty l ls k h g f) = never cc
     go (clean l next inside ahead h g f) =
         ⊎_elim
-        (λ (t : GateFrame l next). absurd (other _ _ _ _ (f ∙ t.framed)))
+        (λ (t : GateFrame l next). let framed = t.framed in let same : r ≡ frame l next = cc in absurd (other _ _ _ _ (same ∙ t.framed)))
         (λ (t : EndFrame l next).
         (walk_closed (v + 2 + 1) n m (lines (drop next text))
         (sym (over_end v (v + 2) n l (lines (drop next text)) g t.other_type) ∙ rw h at e)).1)
         (later_frame v l next g)
 
--- Where no frame goes on, the walk tells what was read, or 3 at the line that is missing.
-stops : {text : List ℕ} {at : ℕ} {p : Place} {line : ℕ} {r : LineRead} (n : Network) → View text at p line r
-    → (r ≡ read.Nothing → at_the_end p line n ≡ refused (at_line 3 line))
-    → ((l : Line) (next : ℕ) → fault p l ≡ none → r ≡ frame l next → ⊥)
-    → walk p line n (lines (drop at text)) ≡ refusal_of r line
-unfolding walk refusal_of
-stops n (nothing h f) ended frames = rw (h, f) (ended f)
-stops {p = p} {line = line} n (faulty l ls k h g f) ended frames = rw (h, f) (walk_faulty p line n l ls k g)
-stops n (clean l next inside ahead h g f) ended frames = absurd (frames l next g f)
-
+-- Where no frame goes on, the walk tells 3 at the line that is missing.
 module _ (text : List ℕ) (at line : ℕ) (n : Network) (r : LineRead) where
-  viewed : (p : Place) → r ≡ line_read text at p line → View text at p line r
-  viewed p e = rw e (view text at p line)
+  stops : (p : Place) → line_read text at p line ≡ Ok r
+      → (r ≡ read.Nothing → at_the_end p line n ≡ refused (at_line 3 line))
+      → ((l : Line) (next : ℕ) → fault p l ≡ none → r ≡ frame l next → ⊥)
+      → walk p line n (lines (drop at text)) ≡ refused (at_line 3 line)
+  unfolding walk
+  stops p answers ended frames = go (viewed text at p line answers)
+    where
+      go : View text at p line (Ok r) → walk p line n (lines (drop at text)) ≡ refused (at_line 3 line)
+      go (nothing h f) = rw h (ended cc)
+      go (faulty l ls k h g f) = never cc
+      go (clean l next inside ahead h g f) = absurd (frames l next g cc)
 
-  pub no_header : r ≡ line_read text at Opening line → NoHeader r
-      → walk Opening line n (lines (drop at text)) ≡ refusal_of r line
+  pub no_header : line_read text at Opening line ≡ Ok r → NoHeader r
+      → walk Opening line n (lines (drop at text)) ≡ refused (at_line 3 line)
   unfolding at_the_end
-  no_header e h =
-      stops n (viewed Opening e) (λ f. refl)
-      (λ l next g f. h _ _ _ (f ∙ opening_frame l next g))
+  no_header e h = stops Opening e (λ f. refl) (λ l next g f. h _ _ _ (f ∙ opening_frame l next g))
 
-  pub no_gate_or_end : (v : ℕ) → r ≡ line_read text at (AfterGates v) line → NoGate r
-      → ((next : ℕ) → r ≡ read.End next → ⊥) → walk (AfterGates v) line n (lines (drop at text)) ≡ refusal_of r line
+  pub no_gate_or_end : (v : ℕ) → line_read text at (AfterGates v) line ≡ Ok r → NoGate r
+      → ((next : ℕ) → r ≡ read.End next → ⊥) → walk (AfterGates v) line n (lines (drop at text)) ≡ refused (at_line 3 line)
   unfolding at_the_end
   no_gate_or_end v e h k =
-      stops n (viewed (AfterGates v) e) (λ f. refl)
+      stops (AfterGates v) e (λ f. refl)
       (λ l next g f.
       ⊎_elim
       (λ (t : GateFrame l next). h _ _ _ _ (f ∙ t.framed))
       (λ (t : EndFrame l next). k _ (f ∙ t.framed))
       (later_frame v l next g))
 
-  pub no_end : r ≡ line_read text at Closed line → (r ≡ read.Nothing → ⊥)
-      → walk Closed line n (lines (drop at text)) ≡ refusal_of r line
-  no_end e h =
-      stops n (viewed Closed e) (λ f. absurd (h f))
-      (λ l next g f. closed_line l g)
+  pub no_end : line_read text at Closed line ≡ Ok r → (r ≡ read.Nothing → ⊥)
+      → walk Closed line n (lines (drop at text)) ≡ refused (at_line 3 line)
+  no_end e h = stops Closed e (λ f. absurd (h f)) (λ l next g f. closed_line l g)
 
-  -- nothing behind the end frame
-  pub whole : r ≡ line_read text at Closed line → r ≡ read.Nothing → walk Closed line n (lines (drop at text)) ≡ network n
-  whole e z = go (viewed Closed e)
-    where
-      go : View text at Closed line r → walk Closed line n (lines (drop at text)) ≡ network n
-      go (nothing h f) = rw h (unfold walk in refl)
-      go (faulty l ls k h g f) = never cc
-      go (clean l next inside ahead h g f) = absurd (closed_line l g)
-
-pub no_network : (r : LineRead) (line : ℕ) (n : Network) → refusal_of r line ≡ network n → ⊥
-unfolding refusal_of
-no_network (read.Header m d next) line n e = never cc
-no_network (read.Gate w d k next) line n e = never cc
-no_network (read.End next) line n e = never cc
-no_network (read.Refused f) line n e = never cc
-no_network read.Nothing line n e = never cc
-
--- what was refused is told, whatever weighs
-pub weigh_refusal : (r : LineRead) (line : ℕ) → weigh (refusal_of r line) ≡ refusal_of r line
-unfolding weigh refusal_of
-weigh_refusal (read.Header m d next) line = refl
-weigh_refusal (read.Gate w d k next) line = refl
-weigh_refusal (read.End next) line = refl
-weigh_refusal (read.Refused f) line = refl
-weigh_refusal read.Nothing line = refl
-
--- any variant but `Refused`
-pub not_refused : (r : LineRead) (missing : ℕ) → ((f : Refusal) → r ≡ read.Refused f → ⊥) → refusal_of r missing ≡ refused (at_line 3 missing)
-unfolding refusal_of
-not_refused (read.Header m d next) missing h = refl
-not_refused (read.Gate w d k next) missing h = refl
-not_refused (read.End next) missing h = refl
-not_refused (read.Refused f) missing h = absurd (h f refl)
-not_refused read.Nothing missing h = refl
+-- nothing behind the end frame
+pub whole : (text : List ℕ) (at line : ℕ) (n : Network) → line_read text at Closed line ≡ Ok read.Nothing
+    → walk Closed line n (lines (drop at text)) ≡ network n
+whole text at line n e = go (viewed text at Closed line e)
+  where
+    go : View text at Closed line (Ok read.Nothing) → walk Closed line n (lines (drop at text)) ≡ network n
+    go (nothing h f) = rw h (unfold walk in refl)
+    go (faulty l ls k h g f) = never cc
+    go (clean l next inside ahead h g f) = absurd (closed_line l g)

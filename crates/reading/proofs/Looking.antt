@@ -1,75 +1,66 @@
 -- What the first pass knows of the network that it reads: kept gate by gate, and enough to answer at the end.
-use Prim.Native.Nat.{ℕ, suc, ◌+◌, ◌≤◌, ◌<◌}
+use Prim.Native.Nat.{ℕ, suc, ◌+◌, ◌≤◌}
+use Rattle.std.specs.Prelude.{Ok, Err, Some, None}
+use Rattle.std.specs.Bool.{then_some}
+use Rattle.std.specs.Option.{option_or}
 use mathlib.Core.Path.{◌≡◌, refl, sym, ap, ◌∙◌}
-use mathlib.Core.Logic.{⊎_elim}
-use mathlib.Core.Bool.{cond, not, ◌&&◌}
+use mathlib.Core.Bool.{not}
 use mathlib.Core.List.{List, [], ◌∷◌, ◌++◌}
 use mathlib.Core.Option.{Option, none, some}
 use native.Mathlib.Omega.{arith}
 use native.Mathlib.Decide.{dec_le}
 use lib.ListN.{length, drop, length-append}
-use lib.Dec.{ltb, leb, eqb}
-use borrow.Author.Tests.{le-leb, lt-leb, lt-ltb, le-ltb, ne_eqb}
+use lib.Dec.{leb}
+use borrow.Author.Tests.{le-leb, lt-leb, lt-ltb, le-ltb}
 use Rattle.model.specs.Ceilings.{most_gates}
 use Rattle.model.specs.Network.{Gate, Network, size}
 use Rattle.units.specs.declared.Cells.{Cells}
 use Rattle.units.specs.declared.Ticks.{Ticks}
 use Rattle.units.specs.declared.FanInCount.{FanInCount}
+use Rattle.frames.specs.declared.Refusal.{Refusal}
 use Rattle.frames.specs.Refusal.{at_line}
 use Rattle.frames.specs.Text.{lines}
 use Rattle.frames.specs.declared.Place.TheVariants.{AfterGates}
-use Rattle.frames.specs.declared.LineRead.{LineRead}
-use Rattle.texts.specs.Reading.{Reading, network, walk, first_heavy, told_heavy, weigh}
-use Rattle.frames.proofs.Tests.{never, picked}
-use Rattle.rows.specs.declared.Read.TheVariants as Read
+use Rattle.texts.specs.Reading.{Reading, refused, network, walk, first_heavy, told_heavy, weigh}
+use Rattle.frames.proofs.Tests.{never}
 use Rattle.rows.specs.Read.{shown}
 use Rattle.reading.specs.declared.Seen.{Seen}
-use Rattle.reading.specs.steps.Passes.{refusal_of, line_or_0, Known, header_only, heavy_with, one_more}
-use Rattle.reading.proofs.LinesRead.{with_one, weigh_refusal, GateRead}
+use Rattle.reading.specs.steps.Passes.{line_known, Known, header_only, heavy_with, one_more}
+use Rattle.reading.proofs.LinesRead.{with_one, GateRead}
 
 -- the line of the first heavy gate, with a gate more at the end
 
--- what stands there once a gate of this weight is looked at
-abbrev next_heavy : ℕ → ℕ → ℕ → ℕ → ℕ
-next_heavy heavy weight capacity line = cond (eqb heavy 0 && not (leb weight capacity)) line heavy
-
-heavy_more : (capacity at : ℕ) (gs : List Gate) (g : Gate) → 0 < at
-    → line_or_0 (first_heavy capacity at (gs ++ (g ∷ [])))
-    ≡ next_heavy (line_or_0 (first_heavy capacity at gs)) g.weight capacity (at + length gs)
-unfolding line_or_0 first_heavy
-heavy_more capacity at [] g pos = go (dec_le g.weight capacity)
+heavy_more : (capacity at : ℕ) (gs : List Gate) (g : Gate)
+    → line_known (first_heavy capacity at (gs ++ (g ∷ [])))
+    ≡ option_or (line_known (first_heavy capacity at gs)) (then_some (not (leb g.weight capacity)) (at + length gs))
+unfolding line_known first_heavy
+heavy_more capacity at [] g = go (dec_le g.weight capacity)
   where
-    go : Dec (g.weight ≤ capacity) → line_or_0 (first_heavy capacity at (g ∷ [])) ≡ next_heavy 0 g.weight capacity (at + 0)
+    go : Dec (g.weight ≤ capacity) → line_known (first_heavy capacity at (g ∷ [])) ≡ then_some (not (leb g.weight capacity)) (at + 0)
     go (yes h) = rw (le-ltb capacity g.weight h, le-leb g.weight capacity h)
     go (no h) =
-        rw (lt-ltb capacity g.weight (omega arith), lt-leb g.weight capacity (omega arith)) (omega arith)
-heavy_more capacity at (h ∷ hs) g pos =
-    go (dec_le h.weight capacity) (heavy_more capacity (suc at) hs g (omega arith))
+        let here : at + 0 ≡ at = omega arith in
+        rw (lt-ltb capacity g.weight (omega arith), lt-leb g.weight capacity (omega arith), here)
+heavy_more capacity at (h ∷ hs) g = go (dec_le h.weight capacity) (heavy_more capacity (suc at) hs g)
   where
-    go : Dec (h.weight ≤ capacity) → line_or_0 (first_heavy capacity (suc at) (hs ++ (g ∷ []))) ≡ next_heavy (line_or_0 (first_heavy capacity (suc at) hs)) g.weight capacity (suc at + length hs)
-        → line_or_0 (first_heavy capacity at (h ∷ hs ++ (g ∷ []))) ≡ next_heavy (line_or_0 (first_heavy capacity at (h ∷ hs))) g.weight capacity (at + suc (length hs))
+    go : Dec (h.weight ≤ capacity)
+        → line_known (first_heavy capacity (suc at) (hs ++ (g ∷ [])))
+        ≡ option_or (line_known (first_heavy capacity (suc at) hs)) (then_some (not (leb g.weight capacity)) (suc at + length hs))
+        → line_known (first_heavy capacity at (h ∷ hs ++ (g ∷ [])))
+        ≡ option_or (line_known (first_heavy capacity at (h ∷ hs))) (then_some (not (leb g.weight capacity)) (at + suc (length hs)))
     go (yes le) rest =
         let c : at + suc (length hs) ≡ suc at + length hs = omega arith in
         rw (le-ltb capacity h.weight le, c) rest
-    go (no gt) rest = rw (lt-ltb capacity h.weight (omega arith), ne_eqb at 0 (omega arith))
-
--- lines count from 1
-heavy_least : (capacity at : ℕ) (gs : List Gate) (line : ℕ) → 0 < at → first_heavy capacity at gs ≡ some line → 0 < line
-unfolding first_heavy
-heavy_least capacity at [] line pos e = never cc
-heavy_least capacity at (g ∷ gs) line pos e =
-    ⊎_elim (λ t. let e' = t.1 in let same : at ≡ line = cc in omega arith)
-    (λ t. heavy_least capacity (suc at) gs line (omega arith) t.1)
-    (picked (ltb capacity g.weight) (some at) (first_heavy capacity (suc at) gs) e)
+    go (no gt) rest = rw (lt-ltb capacity h.weight (omega arith))
 
 -- kept
 
 -- after the header
 abbrev pub starting : Cells → Ticks → Seen
-starting capacity hop = record { header = record { capacity = capacity; hop = hop; gates = 0 }; heavy = 0 }
+starting capacity hop = record { header = record { capacity = capacity; hop = hop; gates = 0 }; heavy = None }
 
 pub known_header : (capacity : Cells) (hop : Ticks) → Known (starting capacity hop) (header_only capacity hop)
-unfolding size line_or_0 first_heavy
+unfolding size line_known first_heavy
 known_header capacity hop = record { capacity = refl; hop = refl; gates = refl; heavy = refl }
 
 pub known_more : (seen : Seen) (n : Network) (g : Gate) (weight : Cells) → g.weight ≡ weight.0 → Known seen n → Known (one_more seen weight) (with_one n g)
@@ -80,35 +71,35 @@ known_more seen n g weight e k =
       capacity = k.capacity;
       hop = k.hop;
       gates = length-append n.gates (g ∷ []) ∙ ap (λ m. m + 1) k.gates;
-      heavy = heavy_more n.capacity 2 n.gates g (omega arith) ∙ rw (k.heavy, e, k.capacity, line);
+      heavy = heavy_more n.capacity 2 n.gates g ∙ rw (k.heavy, e, k.capacity, line);
     }
 
 -- told at the end
 
-pub told_none : (seen : Seen) (n : Network) → Known seen n → seen.heavy ≡ 0
-    → Read.Network seen.header ≡ shown (weigh (network n))
-unfolding shown weigh told_heavy line_or_0
+pub told_none : (seen : Seen) (n : Network) → Known seen n → seen.heavy ≡ None
+    → Ok seen.header ≡ shown (weigh (network n))
+unfolding shown weigh told_heavy line_known
 told_none seen n k e = go (first_heavy n.capacity 2 n.gates) refl
   where
-    go : (o : Option ℕ) → first_heavy n.capacity 2 n.gates ≡ o
-        → Read.Network seen.header ≡ shown (told_heavy o n)
+    go : (o : Option ℕ) → first_heavy n.capacity 2 n.gates ≡ o → Ok seen.header ≡ shown (told_heavy o n)
     go none f = rw (k.capacity, k.hop, k.gates)
-    go (some line) f =
-        let z : line ≡ 0 = sym (ap line_or_0 f) ∙ k.heavy ∙ e in
-        absurd (omega (arith, heavy_least n.capacity 2 n.gates line (omega arith) f))
+    go (some line) f = let z = sym (ap line_known f) ∙ k.heavy ∙ e in never cc
 
-pub told_some : (seen : Seen) (n : Network) → Known seen n → (seen.heavy ≡ 0 → ⊥)
-    → Read.Refused (at_line 9 seen.heavy) ≡ shown (weigh (network n))
-unfolding shown weigh told_heavy line_or_0
-told_some seen n k e = go (first_heavy n.capacity 2 n.gates) refl
+pub told_some : (seen : Seen) (n : Network) (heavy : ℕ) → Known seen n → seen.heavy ≡ Some heavy
+    → Err (at_line 9 heavy) ≡ shown (weigh (network n))
+unfolding shown weigh told_heavy line_known
+told_some seen n heavy k e = go (first_heavy n.capacity 2 n.gates) refl
   where
-    go : (o : Option ℕ) → first_heavy n.capacity 2 n.gates ≡ o → Read.Refused (at_line 9 seen.heavy) ≡ shown (told_heavy o n)
-    go none f = absurd (e (sym k.heavy ∙ ap line_or_0 f))
-    go (some line) f = let same : line ≡ seen.heavy = sym (ap line_or_0 f) ∙ k.heavy in rw same
+    go : (o : Option ℕ) → first_heavy n.capacity 2 n.gates ≡ o → Err (at_line 9 heavy) ≡ shown (told_heavy o n)
+    go none f = let z = sym (ap line_known f) ∙ k.heavy ∙ e in never cc
+    go (some line) f =
+        let z = sym (ap line_known f) ∙ k.heavy ∙ e in
+        let same : line ≡ heavy = cc in rw same
 
--- a refusal is told as it is
-pub refusal_told : (r : LineRead) (line : ℕ) (w : Reading) → w ≡ refusal_of r line → shown (refusal_of r line) ≡ shown (weigh w)
-refusal_told r line w e = ap shown (sym (ap weigh e ∙ weigh_refusal r line))
+-- a refusal of the walk is told as it is, whatever weighs
+pub refusal_told : {f : Refusal} {w : Reading} → w ≡ refused f → Err f ≡ shown (weigh w)
+unfolding shown weigh
+refusal_told e = rw e
 
 -- On the way: the network of the lines so far, and that the walk over those that are left answers what the whole does.
 pub record Going (text : List ℕ) (first : ℕ) (start : Seen) (at : ℕ) (seen : Seen) : Type 0 where

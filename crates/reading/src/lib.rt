@@ -11,41 +11,18 @@ ghost use Rattle.frames.specs.declared.Place.TheVariants.{AfterGates, Closed};
 ghost use Rattle.texts.specs.Reading.{reading, walk, weigh};
 ghost use Rattle.rows.specs.Read.{shown, filled};
 ghost use Rattle.reading.specs.ReadInto.{ReadInto};
-ghost use Rattle.reading.specs.steps.Passes.{refusal_of, heavy_with, Known, header_only, one_more, with_fan_ins, FitsInto};
+ghost use Rattle.reading.specs.steps.Passes.{Known, header_only, one_more, with_fan_ins, FitsInto};
 
 use frames::{LineRead, MISPLACED, MOST_TEXT, Place, Refusal, TOO_HEAVY, TOO_LONG};
-use rows::{Header, Read};
+use rows::Header;
 use units::{Cells, Ticks};
 
-// A line that is not the frame that may go on: its refusal, or 3 at the line that is missing where the text ends.
-fn refusal(read: LineRead, missing: usize) -> Read
-    ensures { result ≡ shown (refusal_of read missing) }
-{
-    let LineRead::Refused(told) = read else {
-        return Read::Refused(Refusal::at_line(MISPLACED, missing));
-    };
-    Read::Refused(told)
-}
-
-// The line of the first gate heavier than M, 0 for none so far, once one more gate was read.
-fn heavy_line(heavy: usize, weight: Cells, capacity: Cells, line: usize) -> usize
-    ensures { result ≡ heavy_with heavy weight capacity line }
-{
-    if heavy != 0 {
-        return heavy;
-    }
-    if weight.within(capacity) {
-        return 0;
-    }
-    line
-}
-
 // What is known of a network whose header and first gates were read: the header with the gates so far, and the line of the
-// first gate heavier than M, 0 where there is none.
+// first gate heavier than M.
 #[derive(Clone, Copy)]
 struct Seen {
     header: Header,
-    heavy: usize,
+    heavy: Option<usize>,
 }
 
 impl Seen {
@@ -55,41 +32,34 @@ impl Seen {
         ensures { result ≡ one_more self weight }
     {
         let header = self.header;
-        let capacity = header.capacity;
-        let hop = header.hop;
-        let gates = header.gates;
-        let heavy = heavy_line(self.heavy, weight, capacity, gates + 2);
+        let told = (!weight.within(header.capacity)).then_some(header.gates + 2);
         Seen {
             header: Header {
-                capacity,
-                hop,
-                gates: gates + 1,
+                gates: header.gates + 1,
+                ..header
             },
-            heavy,
+            heavy: self.heavy.or(told),
         }
     }
 }
 
 // The text behind the end frame: nothing may stand there. Then a gate heavier than M is told.
-fn look_end(text: &[u8], at: usize, seen: Seen) -> Read
+fn look_end(text: &[u8], at: usize, seen: Seen) -> Result<Header, Refusal>
     requires { seen.header.gates ≤ most_gates }
     ensures { (n : Network) → Known seen n → result ≡ shown (weigh (walk Closed (seen.header.gates + 3) n (lines (drop at text.now)))) }
 {
-    let header = seen.header;
-    let missing = header.gates + 3;
-    let read = frames::read_line(text, at, Place::Closed, missing);
-    let LineRead::Nothing = read else {
-        return refusal(read, missing);
+    let missing = seen.header.gates + 3;
+    let LineRead::Nothing = frames::read_line(text, at, Place::Closed, missing)? else {
+        return Err(Refusal::at_line(MISPLACED, missing));
     };
-    let heavy = seen.heavy;
-    if heavy != 0 {
-        return Read::Refused(Refusal::at_line(TOO_HEAVY, heavy));
+    match seen.heavy {
+        Some(line) => Err(Refusal::at_line(TOO_HEAVY, line)),
+        None => Ok(seen.header),
     }
-    Read::Network(header)
 }
 
 // The gate lines from `first` on, up to the end frame, and what stands behind it.
-fn look_gates(text: &[u8], first: usize, capacity: Cells, hop: Ticks) -> Read
+fn look_gates(text: &[u8], first: usize, capacity: Cells, hop: Ticks) -> Result<Header, Refusal>
     ensures { result ≡ shown (weigh (walk (AfterGates 0) 2 (header_only capacity hop) (lines (drop first text.now)))) }
 {
     let mut at = first;
@@ -99,44 +69,35 @@ fn look_gates(text: &[u8], first: usize, capacity: Cells, hop: Ticks) -> Read
             hop,
             gates: 0,
         },
-        heavy: 0,
+        heavy: None,
     };
     loop {
-        let header = seen.header;
-        let gates = header.gates;
-        let read = frames::read_line(text, at, Place::AfterGates(gates), gates + 2);
-        let LineRead::Gate {
-            weight,
-            delay: _,
-            count: _,
-            next,
-        } = read
-        else {
-            let LineRead::End { next } = read else {
-                return refusal(read, gates + 2);
-            };
-            return look_end(text, next, seen);
-        };
-        seen = seen.with_gate(weight);
-        at = next;
+        let gates = seen.header.gates;
+        match frames::read_line(text, at, Place::AfterGates(gates), gates + 2)? {
+            LineRead::Gate { weight, next, .. } => {
+                seen = seen.with_gate(weight);
+                at = next;
+            }
+            LineRead::End { next } => return look_end(text, next, seen),
+            _ => return Err(Refusal::at_line(MISPLACED, gates + 2)),
+        }
     }
 }
 
 // What the text answers, the row left out.
-pub fn look(text: &[u8]) -> Read
+pub fn look(text: &[u8]) -> Result<Header, Refusal>
     ensures { result ≡ shown (reading text.now) }
 {
     if MOST_TEXT < text.len() {
-        return Read::Refused(Refusal::at_no_line(TOO_LONG));
+        return Err(Refusal::at_no_line(TOO_LONG));
     }
-    let read = frames::read_line(text, 0, Place::Opening, 1);
     let LineRead::Header {
         capacity,
         hop,
         next,
-    } = read
+    } = frames::read_line(text, 0, Place::Opening, 1)?
     else {
-        return refusal(read, 1);
+        return Err(Refusal::at_line(MISPLACED, 1));
     };
     look_gates(text, next, capacity, hop)
 }
@@ -146,10 +107,8 @@ fn fill_fan_ins(text: &[u8], at: usize, count: usize, row: &mut [u16], v: usize)
     requires { (i : ℕ) → i < count → fan_in_from text.now at i < 65_536 }
     ensures { row.new ≡ with_fan_ins text.now at v 0 count row.old }
 {
-    let mut i = 0;
-    while i < count {
+    for i in 0..count {
         rows::put_fan_in(row, v, i, frames::fan_in(text, at, i) as u16);
-        i += 1;
     }
 }
 
@@ -158,29 +117,22 @@ fn fill_row(text: &[u8], row: &mut [u16])
     requires { FitsInto text.now row.old }
     ensures { row.new ≡ filled (reading text.now) row.old }
 {
-    let header = frames::read_line(text, 0, Place::Opening, 1);
-    let LineRead::Header {
-        capacity: _,
-        hop: _,
-        next: first,
-    } = header
+    let Ok(LineRead::Header { next: first, .. }) = frames::read_line(text, 0, Place::Opening, 1)
     else {
         // never: the text is a network's
         return;
     };
     let mut at = first;
     let mut gates = 0;
-    loop {
-        let read = frames::read_line(text, at, Place::AfterGates(gates), gates + 2);
-        let LineRead::Gate {
+    while let Ok(
+        LineRead::Gate {
             weight,
             delay,
             count,
             next,
-        } = read
-        else {
-            return;
-        };
+        },
+    ) = frames::read_line(text, at, Place::AfterGates(gates), gates + 2)
+    {
         rows::put_gate(row, gates, weight, delay, count);
         fill_fan_ins(text, at, count.0, row, gates);
         at = next;
@@ -190,16 +142,13 @@ fn fill_row(text: &[u8], row: &mut [u16])
 
 // Reads a network's text into the row. A refusal leaves the row as it was; a network stands in it gate by gate, and every
 // other place keeps its content.
-pub fn read(text: &[u8], row: &mut [u16]) -> Read
+pub fn read(text: &[u8], row: &mut [u16]) -> Result<Header, Refusal>
     ensures { ReadInto text.now row.old row.new result }
 {
-    let seen = look(text);
-    let Read::Network(header) = seen else {
-        return seen;
-    };
+    let header = look(text)?;
     if rows::too_short(header.gates, row) {
-        return Read::Refused(Refusal::no_room());
+        return Err(Refusal::no_room());
     }
     fill_row(text, row);
-    seen
+    Ok(header)
 }

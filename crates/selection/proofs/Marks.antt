@@ -4,21 +4,21 @@ use mathlib.Core.Path.{◌≡◌, refl, sym, ◌∙◌, ap}
 use mathlib.Core.Logic.{⊎_elim}
 use mathlib.Core.Bool.{Bool, true, false, cond}
 use mathlib.Core.List.Memᴰ
-use mathlib.Core.List.{List, [], ◌∷◌, ◌++◌, map, map-append, append-nil, append_assoc}
+use mathlib.Core.List.{List, [], ◌∷◌, ◌++◌, map, map-append, append-nil}
 use native.Mathlib.Numerals.{add-one}
 use native.Mathlib.Omega.{arith}
 use borrow.Author.Tests.{eq-eqb, ne_eqb}
+use mir.Val.{bool_byte}
 use lib.Dec.{eqb}
-use lib.ListN.{length, get_or, set, drop, replicate, length-set, length-append, length-drop, length-replicate, get_or-replicate, drop_of_length-le}
-use lib.Seq.{drop-cons, get_or-set_same, get_or-set_other, ext_get_or, set_at}
+use lib.ListN.{length, get_or, set, drop, replicate, length-set, length-replicate, get_or-replicate, drop_of_length-le}
+use lib.Seq.{drop-cons, get_or-set_same, get_or-set_other, ext_get_or}
 use Rattle.model.specs.Basics.{◌∈◌, member, keep, gather, upto, largest}
 use Rattle.model.specs.Drawing.{mark}
 use Rattle.model.proofs.Lists.{true_or_false, not_both, same_or_not, true_member, false_member, in_keep, keep_in, in_upto, keep_append, keep_yes, keep_no}
 use Rattle.model.proofs.Drawn.{length_mark}
-use Rattle.frames.proofs.Made.{length_made, get_or_made}
 use Rattle.frames.proofs.Puts.{gather_append}
 use Rattle.rows.specs.Row.{fanins_in}
-use Rattle.selection.specs.steps.Marking.{fanins_of, unmarked, largest_label, or_label, outside}
+use Rattle.selection.specs.steps.Marking.{fanins_of, unmarked, largest_label, outside}
 
 -- marks, a gate at a time
 
@@ -102,50 +102,30 @@ unfolding largest
 largest_last [] x = omega arith
 largest_last (y ∷ ys) x = let e = largest_last ys x in omega arith
 
-pub largest_next : (labels row : List ℕ) (v : ℕ)
-    → or_label (largest_label labels (unmarked row v)) (get_or row v 0) (get_or labels v 0)
-    ≡ largest_label labels (unmarked row (v + 1))
-unfolding largest_label unmarked
-largest_next labels row v =
-    rw add-one
-    (⊎_elim
-    (λ (t : eqb (get_or row v 0) 0 ≡ true).
-    rw (t, keep_one (λ u. eqb (get_or row u 0) 0) v t, map-append)
-    (sym (largest_last (map (λ u. get_or labels u 0) (keep (λ u. eqb (get_or row u 0) 0) (upto v))) (get_or labels v 0))))
-    (λ (t : eqb (get_or row v 0) 0 ≡ false). rw (t, keep_other (λ u. eqb (get_or row u 0) 0) v t))
-    (true_or_false (eqb (get_or row v 0) 0)))
+module _ (labels row : List ℕ) (v : ℕ) where
+  abbrev bare : ℕ → Bool
+  bare u = eqb (get_or row u 0) 0
 
--- marks written from scratch, a gate at a time
+  pub largest_next : get_or row v 0 ≡ 0
+      → largest_label labels (unmarked row (v + 1)) ≡ max (largest_label labels (unmarked row v)) (get_or labels v 0)
+  unfolding largest_label unmarked
+  largest_next e =
+      rw (add-one, keep_one bare v (eq-eqb (get_or row v 0) 0 e), map-append)
+      (largest_last (map (λ u. get_or labels u 0) (keep bare (upto v))) (get_or labels v 0))
+
+  pub largest_same : (get_or row v 0 ≡ 0 → ⊥) → largest_label labels (unmarked row (v + 1)) ≡ largest_label labels (unmarked row v)
+  unfolding largest_label unmarked
+  largest_same d = rw (add-one, keep_other bare v (ne_eqb (get_or row v 0) 0 d))
+
+-- marks written from scratch
 
 -- the mark that a gate starts with
 abbrev pub start_mark : List ℕ → ℕ → ℕ
-start_mark row v = cond (eqb (get_or row v 0) 0) 1 0
+start_mark row v = bool_byte (eqb (get_or row v 0) 0)
 
--- so many marks in front, the rest of the row as it was
-abbrev pub Started : List ℕ → ℕ → List ℕ → List ℕ → Type 0
-Started row v marks₀ marks = marks ≡ map (start_mark row) (upto v) ++ drop v marks₀
-
-pub started_none : (row marks : List ℕ) → Started row 0 marks marks
-unfolding upto
-started_none row marks = refl
-
-pub started_long : (row marks₀ marks : List ℕ) (v : ℕ) → v ≤ length marks₀ → Started row v marks₀ marks
-    → length marks ≡ length marks₀
-started_long row marks₀ marks v h s =
-    ap length s
-    ∙ length-append (map (start_mark row) (upto v)) (drop v marks₀)
-    ∙ omega (arith, length_made (start_mark row) v, length-drop v marks₀)
-
-pub started_next : (row marks₀ marks : List ℕ) (v m : ℕ) → v < length marks₀ → Started row v marks₀ marks → m ≡ start_mark row v
-    → Started row (v + 1) marks₀ (set marks v m)
-unfolding upto
-started_next row marks₀ marks v m h s e =
-    let front = map (start_mark row) (upto v) in
-    rw (add-one, s, e, drop-cons marks₀ v 0)
-    (set_at front (get_or marks₀ v 0) (drop (suc v) marks₀) (start_mark row v) v (length_made (start_mark row) v)
-    ∙ sym
-    (ap (λ (r : List ℕ). r ++ drop (suc v) marks₀) (map-append (start_mark row) (upto v) (v ∷ []))
-    ∙ append_assoc front (start_mark row v ∷ []) (drop (suc v) marks₀)))
+as_cond : (b : Bool) → bool_byte b ≡ cond b 1 0
+as_cond true = refl
+as_cond false = refl
 
 member_keep : (f : ℕ → Bool) (k v : ℕ) → v < k → member v (keep f (upto k)) ≡ f v
 member_keep f k v h =
@@ -153,36 +133,38 @@ member_keep f k v h =
     (λ (t : f v ≡ false). false_member v (keep f (upto k)) (λ m. not_both (keep_in f v (upto k) m).1 t) ∙ sym t)
     (true_or_false (f v))
 
-pub started_all : (row marks₀ marks : List ℕ) (v : ℕ) → length marks₀ ≡ v → Started row v marks₀ marks
-    → marks ≡ mark (replicate v 0) (unmarked row v)
+pub all_started : (row marks : List ℕ) (k : ℕ) → length marks ≡ k → ((v : ℕ) → v < k → get_or marks v 0 ≡ start_mark row v)
+    → marks ≡ mark (replicate k 0) (unmarked row k)
 unfolding unmarked
-started_all row marks₀ marks v e s =
-    let none_left : length marks₀ ≤ v = omega arith in
-    s
-    ∙ ap (λ (r : List ℕ). map (start_mark row) (upto v) ++ r) (drop_of_length-le marks₀ none_left)
-    ∙ append-nil (map (start_mark row) (upto v))
-    ∙ ext_get_or 0 (map (start_mark row) (upto v)) (mark (replicate v 0) (keep unread (upto v)))
-    (omega (arith, length_made (start_mark row) v, length_mark (replicate v 0) (keep unread (upto v)), length-replicate {A = ℕ} v 0))
-    (λ i h.
-    let below : i < v = omega (arith, length_made (start_mark row) v) in
-    get_or_made (start_mark row) 0 v i below ∙ sym (fresh_at v (keep unread (upto v)) i below ∙ rw (member_keep unread v i below)))
+all_started row marks k long started =
+    ext_get_or 0 marks (mark (replicate k 0) (keep free (upto k)))
+    (omega (arith, length_mark (replicate k 0) (keep free (upto k)), length-replicate {A = ℕ} k 0))
+    (λ v h.
+    let below : v < k = omega arith in
+    started v below ∙ as_cond (free v) ∙ sym (fresh_at k (keep free (upto k)) v below ∙ rw (member_keep free k v below)))
   where
-    unread : ℕ → Bool
-    unread v = eqb (get_or row v 0) 0
+    free : ℕ → Bool
+    free v = eqb (get_or row v 0) 0
 
 -- marks of the gates of a list that lie outside, a gate at a time
 
-pub outside_next : (inside row xs : List ℕ) (i : ℕ) → i < length xs
-    → mark (cond (eqb (get_or inside (get_or xs i 0) 0) 0) (set row (get_or xs i 0) 1) row) (outside inside (drop (i + 1) xs))
-    ≡ mark row (outside inside (drop i xs))
-unfolding outside
-outside_next inside row xs i h =
-    let x = get_or xs i 0 in
-    let rest = drop (suc i) xs in
-    rw (add-one, drop-cons xs i 0)
-    (⊎_elim (λ (t : eqb (get_or inside x 0) 0 ≡ true). rw (t, keep_yes (λ y. eqb (get_or inside y 0) 0) x rest t) (unfold mark in refl))
-    (λ (t : eqb (get_or inside x 0) 0 ≡ false). rw (t, keep_no (λ y. eqb (get_or inside y 0) 0) x rest t))
-    (true_or_false (eqb (get_or inside x 0) 0)))
+module _ (inside row xs : List ℕ) (i : ℕ) (h : i < length xs) where
+  abbrev x : ℕ
+  x = get_or xs i 0
+
+  abbrev rest : List ℕ
+  rest = drop (suc i) xs
+
+  abbrev free : ℕ → Bool
+  free y = eqb (get_or inside y 0) 0
+
+  pub outside_next : get_or inside x 0 ≡ 0 → mark (set row x 1) (outside inside (drop (i + 1) xs)) ≡ mark row (outside inside (drop i xs))
+  unfolding outside mark
+  outside_next e = rw (add-one, drop-cons xs i 0, keep_yes free x rest (eq-eqb (get_or inside x 0) 0 e))
+
+  pub inside_next : (get_or inside x 0 ≡ 0 → ⊥) → mark row (outside inside (drop (i + 1) xs)) ≡ mark row (outside inside (drop i xs))
+  unfolding outside
+  inside_next d = rw (add-one, drop-cons xs i 0, keep_no free x rest (ne_eqb (get_or inside x 0) 0 d))
 
 pub outside_done : (inside row xs : List ℕ) (i : ℕ) → length xs ≤ i → mark row (outside inside (drop i xs)) ≡ row
 unfolding outside mark keep

@@ -2,27 +2,28 @@
 // has a mark in a row with a place for each gate, 1 for drawn and 0 for not.
 #![tactic(auto)]
 
-ghost use Rattle.std.specs.Prelude.{◌≡◌, cond, ◌≤◌, ◌<◌, eqb, length, get_or, set, replicate};
+ghost use Rattle.std.specs.Prelude.{◌≡◌, ◌≤◌, ◌<◌, length, get_or, replicate};
 ghost use Rattle.model.specs.Basics.{upto};
 ghost use Rattle.model.specs.Ceilings.{most_gates};
 ghost use Rattle.model.specs.Drawing.{mark, inputs, select, marks as marks_of};
-ghost use Rattle.texts.specs.Reading.{network};
-ghost use Rattle.rows.specs.Row.{network_in};
+ghost use Rattle.texts.specs.Reading.{network as a_network};
+ghost use Rattle.rows.specs.Found.{network_of};
 ghost use Rattle.rows.specs.Spelling.{row_answer};
-ghost use Rattle.rows.specs.steps.Holds.{Holds};
 ghost use Rattle.labelling.specs.steps.Standing.{Below};
 ghost use Rattle.selection.specs.Selection.{delay_from, roots, DrawingAnswered};
-ghost use Rattle.selection.specs.steps.Marking.{fanins_of, unmarked, unread, largest_label, or_label, outside};
+ghost use Rattle.selection.specs.steps.Marking.{fanins_of, unmarked, unread, largest_label, outside};
 
 use frames::Refusal;
-use rows::{Header, Read};
+use labelling::labelled::Labelled;
+use rows::Header;
+use rows::network::Network;
 use units::{GateNumber, Ticks};
 
-// What selecting answers: how many clusters are drawn and the output delay, the marks standing in the row; or a refusal.
+// What is drawn: how many clusters, the marks standing in the row, and the output delay.
 #[derive(Clone, Copy)]
-pub enum Drawing {
-    Drawn { clusters: usize, delay: Ticks },
-    Refused(Refusal),
+pub struct Drawn {
+    pub clusters: usize,
+    pub delay: Ticks,
 }
 
 // A mark for each gate.
@@ -33,60 +34,41 @@ fn mark(row: &mut Marks, gates: &[u16])
     requires { Below most_gates gates.now }
     ensures { row.new ≡ mark row.old gates.now }
 {
-    for i in 0..gates.len() {
-        row[gates[i] as usize] = 1;
+    for &gate in gates {
+        row[gate as usize] = 1;
     }
 }
 
 // A mark for each gate that some gate reads.
-fn reads(read: &mut Marks, header: Header, row: &[u16])
-    requires { Holds header row.now }
-    ensures { read.new ≡ mark read.old (fanins_of row.now (upto header.gates)) }
+fn reads(network: &Network) -> Marks
+    ensures { result ≡ mark (replicate most_gates 0) (fanins_of network.now.row.now (upto network.now.header.gates)) }
 {
-    let gates = header.gates;
-    for v in 0..gates {
-        mark(read, rows::fan_ins(row, v));
+    let mut read = [0; GateNumber::MOST_GATES];
+    for v in 0..network.header.gates {
+        mark(&mut read, rows::fan_ins(network.row, v));
     }
-}
-
-// The larger of a time and a gate's label, if no gate reads that gate.
-fn or_label(time: Ticks, read: u8, label: u32) -> Ticks
-    ensures { result.0 ≡ or_label time.0 read label }
-{
-    if read == 0 {
-        time.larger(Ticks(label as u64))
-    } else {
-        time
-    }
+    read
 }
 
 // The largest label of a gate without a mark.
-fn largest_unmarked(row: &Marks, gates: usize, labels: &[u32]) -> Ticks
-    requires { (gates ≤ most_gates) × (gates ≤ length labels.now) }
-    ensures { result.0 ≡ largest_label labels.now (unmarked row.now gates) }
+fn largest_unmarked(row: &Marks, labelled: &Labelled) -> Ticks
+    ensures { result.0 ≡ largest_label labelled.now.labels.now (unmarked row.now labelled.now.network.header.gates) }
 {
+    let labels = &labelled.labels[..labelled.network.header.gates];
     let mut largest = Ticks(0);
-    for v in 0..gates {
-        largest = or_label(largest, row[v], labels[v]);
+    for (&mark, &label) in row.iter().zip(labels) {
+        if mark == 0 {
+            largest = largest.larger(Ticks(u64::from(label)));
+        }
     }
     largest
 }
 
-// The largest label of a primary output [S5], of a network that `rows::check` has found in the row.
-pub fn output_delay(header: Header, row: &[u16], labels: &[u32]) -> Ticks
-    requires { Holds header row.now × (header.gates ≤ length labels.now) }
-    ensures { result.0 ≡ delay_from (network_in header row.now) labels.now }
+// The largest label of a primary output [S5].
+pub fn output_delay(labelled: &Labelled) -> Ticks
+    ensures { result.0 ≡ delay_from (network_of labelled.now.network) labelled.now.labels.now }
 {
-    let mut read = [0; GateNumber::MOST_GATES];
-    reads(&mut read, header, row);
-    largest_unmarked(&read, header.gates, labels)
-}
-
-// The mark that a gate starts with: 1 where no gate reads it.
-fn output_mark(read: u8) -> u8
-    ensures { result ≡ cond (eqb read 0) 1 0 }
-{
-    if read == 0 { 1 } else { 0 }
+    largest_unmarked(&reads(&labelled.network), labelled)
 }
 
 // A mark for each gate that has none in the other row, and for no other.
@@ -95,29 +77,17 @@ fn mark_unmarked(row: &Marks, marks: &mut [u8])
     ensures { marks.new
         ≡ mark (replicate (length marks.old) 0) (unmarked row.now (length marks.old)) }
 {
-    for v in 0..marks.len() {
-        marks[v] = output_mark(row[v]);
+    for (v, mark) in marks.iter_mut().enumerate() {
+        *mark = u8::from(row[v] == 0);
     }
 }
 
 // A mark for each primary output [S1], and for no other gate.
-fn mark_outputs(header: Header, row: &[u16], marks: &mut [u8])
-    requires { Holds header row.now × (length marks.old ≡ header.gates) }
-    ensures { marks.new ≡ mark (replicate header.gates 0) (unread row.now header.gates) }
+fn mark_outputs(network: &Network, marks: &mut [u8])
+    requires { length marks.old ≡ network.now.header.gates }
+    ensures { marks.new ≡ mark (replicate network.now.header.gates 0) (unread network.now.row.now network.now.header.gates) }
 {
-    let mut read = [0; GateNumber::MOST_GATES];
-    reads(&mut read, header, row);
-    mark_unmarked(&read, marks);
-}
-
-// A mark for the gate x, if it lies outside.
-fn mark_if_outside(marks: &mut [u8], inside: &Marks, x: usize)
-    requires { (x < most_gates) × (x < length marks.old) }
-    ensures { marks.new ≡ cond (eqb (get_or inside.now x 0) 0) (set marks.old x 1) marks.old }
-{
-    if inside[x] == 0 {
-        marks[x] = 1;
-    }
+    mark_unmarked(&reads(network), marks);
 }
 
 // A mark for each gate of a list that lies outside.
@@ -125,18 +95,21 @@ fn mark_outside(marks: &mut [u8], inside: &Marks, gates: &[u16])
     requires { Below (length marks.old) gates.now × (length marks.old ≤ most_gates) }
     ensures { marks.new ≡ mark marks.old (outside inside.now gates.now) }
 {
-    for i in 0..gates.len() {
-        mark_if_outside(marks, inside, gates[i] as usize);
+    for &gate in gates {
+        let x = gate as usize;
+        if inside[x] == 0 {
+            marks[x] = 1;
+        }
     }
 }
 
 // A mark for each input of a cluster [S2]: what a member reads and the cluster does not have.
-fn mark_inputs(marks: &mut [u8], inside: &Marks, header: Header, row: &[u16], members: &[u16])
-    requires { Holds header row.now × (length marks.old ≡ header.gates) × Below header.gates members.now }
-    ensures { marks.new ≡ mark marks.old (outside inside.now (fanins_of row.now members.now)) }
+fn mark_inputs(marks: &mut [u8], inside: &Marks, network: &Network, members: &[u16])
+    requires { (length marks.old ≡ network.now.header.gates) × Below network.now.header.gates members.now }
+    ensures { marks.new ≡ mark marks.old (outside inside.now (fanins_of network.now.row.now members.now)) }
 {
-    for i in 0..members.len() {
-        mark_outside(marks, inside, rows::fan_ins(row, members[i] as usize));
+    for &member in members {
+        mark_outside(marks, inside, rows::fan_ins(network.row, member as usize));
     }
 }
 
@@ -144,95 +117,79 @@ fn mark_inputs(marks: &mut [u8], inside: &Marks, header: Header, row: &[u16], me
 pub fn count_marked(gates: usize, marks: &[u8]) -> usize
     ensures { result ≡ length (roots marks.now gates) }
 {
-    let mut count = 0;
-    let mut v = 0;
-    while v < gates && v < marks.len() {
-        if marks[v] != 0 {
-            count += 1;
-        }
-        v += 1;
-    }
-    count
+    marks.iter().take(gates).filter(|&&mark| mark != 0).count()
 }
 
 // The marked gate of that index, counted from 0, of so many gates; where there are not so many marks, the number of gates.
 pub fn nth_marked(gates: usize, marks: &[u8], index: usize) -> usize
     ensures { result ≡ get_or (roots marks.now gates) index gates }
 {
-    let mut left = index;
-    let mut v = 0;
-    while v < gates && v < marks.len() {
-        if marks[v] != 0 {
-            if left == 0 {
-                return v;
-            }
-            left -= 1;
-        }
-        v += 1;
-    }
-    gates
+    marks
+        .iter()
+        .take(gates)
+        .enumerate()
+        .filter(|&(_, &mark)| mark != 0)
+        .map(|(root, _)| root)
+        .nth(index)
+        .unwrap_or(gates)
 }
 
 // The inputs of a root's cluster marked.
-fn draw_inputs(header: Header, row: &[u16], labels: &[u32], root: usize, marks: &mut [u8])
-    requires { Holds header row.now × (root < header.gates) × (header.gates ≤ length labels.now) × (length marks.old ≡ header.gates) }
-    ensures { marks.new ≡ mark marks.old (inputs (network_in header row.now) labels.now root) }
+fn draw_inputs(labelled: &Labelled, root: usize, marks: &mut [u8])
+    requires { (root < labelled.now.network.header.gates) × (length marks.old ≡ labelled.now.network.header.gates) }
+    ensures { marks.new ≡ mark marks.old (inputs (network_of labelled.now.network) labelled.now.labels.now root) }
 {
-    let mut members = [0; GateNumber::MOST_GATES];
-    let count = labelling::members_of(header, row, labels, root, &mut members);
+    let mut room = [0; GateNumber::MOST_GATES];
+    let count = labelled.members_of(root, &mut room);
+    let members = &room[..count];
     let mut inside = [0; GateNumber::MOST_GATES];
-    mark(&mut inside, &members[..count]);
-    mark_inputs(marks, &inside, header, row, &members[..count]);
+    mark(&mut inside, members);
+    mark_inputs(marks, &inside, &labelled.network, members);
 }
 
 // With each marked root a mark for the inputs of its cluster [S2]: from the last gate to the first, since these stand below it.
-fn sweep(header: Header, row: &[u16], labels: &[u32], marks: &mut [u8])
-    requires { Holds header row.now × (header.gates ≤ length labels.now) × (length marks.old ≡ header.gates) }
-    ensures { marks.new ≡ select (network_in header row.now) labels.now header.gates marks.old }
+fn sweep(labelled: &Labelled, marks: &mut [u8])
+    requires { length marks.old ≡ labelled.now.network.header.gates }
+    ensures { marks.new ≡ select (network_of labelled.now.network) labelled.now.labels.now labelled.now.network.header.gates marks.old }
 {
-    let mut left = header.gates;
-    while left > 0 {
-        left -= 1;
-        if marks[left] != 0 {
-            draw_inputs(header, row, labels, left, marks);
+    for root in (0..labelled.network.header.gates).rev() {
+        if marks[root] != 0 {
+            draw_inputs(labelled, root, marks);
         }
     }
 }
 
 // The marks of the drawn clusters, in a row with a place for each gate and no more.
-fn select(header: Header, row: &[u16], labels: &[u32], marks: &mut [u8])
-    requires { Holds header row.now × (header.gates ≤ length labels.now) × (length marks.old ≡ header.gates) }
-    ensures { marks.new ≡ marks_of (network_in header row.now) labels.now }
+fn select(labelled: &Labelled, marks: &mut [u8])
+    requires { length marks.old ≡ labelled.now.network.header.gates }
+    ensures { marks.new ≡ marks_of (network_of labelled.now.network) labelled.now.labels.now }
 {
-    mark_outputs(header, row, marks);
-    sweep(header, row, labels, marks);
+    mark_outputs(&labelled.network, marks);
+    sweep(labelled, marks);
 }
 
-// Selection of a network that is known to stand in its row.
-fn draw_known(header: Header, row: &[u16], labels: &[u32], marks: &mut [u8]) -> Drawing
-    requires { Holds header row.now }
-    ensures { DrawingAnswered (network (network_in header row.now)) labels.now marks.old result marks.new }
+// Selection of a network with labels, which stand already.
+fn draw_known(labelled: &Labelled, marks: &mut [u8]) -> Result<Drawn, Refusal>
+    ensures { DrawingAnswered (a_network (network_of labelled.now.network)) labelled.now.labels.now marks.old result marks.new }
 {
-    let gates = header.gates;
-    if labels.len() < gates || marks.len() < gates {
-        return Drawing::Refused(Refusal::no_room());
+    let gates = labelled.network.header.gates;
+    if marks.len() < gates {
+        return Err(Refusal::no_room());
     }
-    select(header, row, labels, &mut marks[..gates]);
-    Drawing::Drawn {
+    select(labelled, &mut marks[..gates]);
+    Ok(Drawn {
         clusters: count_marked(gates, marks),
-        delay: output_delay(header, row, labels),
-    }
+        delay: output_delay(labelled),
+    })
 }
 
 // The drawn clusters of the network that stands in the row, from its labels: a mark for each root in front of the lent row. A
 // header and a row that spell a refused text answer that refusal; a row of labels or marks with fewer places than gates
 // answers 10.
-pub fn draw(header: Header, row: &[u16], labels: &[u32], marks: &mut [u8]) -> Drawing
+pub fn draw(header: Header, row: &[u16], labels: &[u32], marks: &mut [u8]) -> Result<Drawn, Refusal>
     ensures { DrawingAnswered (row_answer header row.now) labels.now marks.old result marks.new }
 {
-    let read = rows::check(header, row);
-    let Read::Network(known) = read else {
-        return Drawing::Refused(read.refusal());
-    };
-    draw_known(known, row, labels, marks)
+    let network = Network::find(header, row)?;
+    let labelled = Labelled::new(network, labels)?;
+    draw_known(&labelled, marks)
 }

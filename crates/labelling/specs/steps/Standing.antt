@@ -1,9 +1,9 @@
 -- What labelling's own rows hold, and what they keep to.
-use Rattle.std.specs.Prelude.{ℕ, suc, ◌+◌, ◌*◌, ◌≤◌, ◌<◌, ◌^◌, ◌≡◌, List, [], ◌∷◌, cond, ltb, get_or, take}
+use Rattle.std.specs.Prelude.{ℕ, suc, ◌+◌, ◌*◌, ◌≤◌, ◌<◌, ◌^◌, ◌≡◌, List, [], ◌∷◌, ltb, get_or, take}
 use Rattle.model.specs.Basics.{◌∈◌}
 use Rattle.model.specs.Ceilings.{most_delay}
 use Rattle.model.specs.Onward.{reach, in_cone}
-use Rattle.model.specs.Label.{pull, place, ordered}
+use Rattle.model.specs.Label.{pull, ordered}
 use Rattle.model.specs.Network.{Network}
 
 -- every number of the list is below k
@@ -18,10 +18,6 @@ pub data Falls (pulls : ℕ → ℕ) : List ℕ → Type 0 where
 -- the pull of a gate, as the row has it
 abbrev pub pull_in : List ℕ → ℕ → ℕ
 pull_in row u = get_or row u 0
-
--- the ordered row when the gate u has been looked at
-abbrev pub seated : List ℕ → List ℕ → ℕ → List ℕ → List ℕ
-seated onward pulls u row = cond (ltb 0 (get_or onward u 0)) (place (pull_in pulls) u row) row
 
 -- The rows tell, of the gates below v, which of them lie in the cone of v and how much they pull.
 pub record Pulled (n : Network) (labels : List ℕ) (v : ℕ) (onward pulls : List ℕ) : Type 0 where

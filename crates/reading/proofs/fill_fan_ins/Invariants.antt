@@ -1,15 +1,9 @@
 -- `reading::fill_fan_ins` meets its contract. The loop's invariant: the fan-ins that are left, put from here, give what all of
--- them give from the start. The measure is how many are left.
-use Prim.Native.Nat.{◌-◌, ◌≤◌}
+-- them give from the start.
+use Prim.Native.Nat.{◌-◌}
 use mathlib.Core.Path.{◌≡◌}
-use lib.ListN.{length}
 use Rattle.reading.specs.steps.Passes.{with_fan_ins}
 use Rattle.reading.proofs.fill_fan_ins.Given as goal
 
 abbrev pub invariant-loop-i : goal.invariant-loop-i
-invariant-loop-i l = (l.i ≤ l.count)
-    × (length l.row ≡ length l.initial.row)
-    × (with_fan_ins l.text l.at l.v l.i (l.count - l.i) l.row ≡ with_fan_ins l.text l.at l.v 0 l.count l.initial.row)
-
-abbrev pub decreases-loop-i : goal.decreases-loop-i
-decreases-loop-i l = l.count - l.i
+invariant-loop-i l = with_fan_ins l.text l.at l.v l.i (l.count - l.i) l.row ≡ with_fan_ins l.text l.at l.v 0 l.count l.initial.row

@@ -1,55 +1,50 @@
 -- `reading::look_gates` meets its contract. The loop's invariant, `Going`: the walk over the lines that are left
 -- answers what the walk over all of them does, and what was seen is known of the network so far. The measure is what is
 -- left of the text.
-use Prim.Native.Nat.{◌+◌}
 use mathlib.Core.Path.{sym, ap, ◌∙◌}
 use native.Mathlib.Omega.{arith}
+use Rattle.std.proofs.lemmas.Result.{err_from_is_err_and}
+use Rattle.std.specs.Prelude.{Ok}
 use Rattle.texts.specs.Reading.{weigh}
 use Rattle.rows.specs.Read.{shown}
-use Rattle.reading.proofs.LinesRead.{GateRead, gate_read, end_read, no_gate_or_end}
+use Rattle.reading.proofs.LinesRead.{refused_there, gate_read, end_read, no_gate_or_end}
 use Rattle.reading.proofs.Looking.{refusal_told, set_out, go_on}
 use Rattle.reading.proofs.look_gates.Goals as goal
 
 pub loop-weight-init : goal.loop-weight-init
 loop-weight-init c =
-    let a = c.args in
-    set_out a.text.now a.first a.capacity a.hop
+    set_out c.args.text.now c.args.first c.args.capacity c.args.hop
 
-pub returns-in_default-read : goal.returns-in_default-read
-returns-in_default-read c =
-    let l = c.loop-weight in
-    let r = c.read_line-read in
-    c.refusal.ensures
-    ∙ refusal_told r.result (l.seen.header.gates + 2) _
-    (sym l.invariant.same ∙ no_gate_or_end (c.args.text.now) l.at (l.seen.header.gates + 2) l.invariant.so_far r.result l.seen.header.gates r.ensures c.in_default.not-Gate c.in_default-read.not-End)
-
-pub returns-in_default : goal.returns-in_default
-returns-in_default c =
-    let l = c.loop-weight in
-    let r = c.read_line-read in
-    let on = end_read (c.args.text.now) l.at l.seen.header.gates r.result r.ensures _ c.in-End.is l.invariant.so_far in
-    c.look_end.ensures l.invariant.so_far l.invariant.known ∙ ap (λ w. shown (weigh w)) (sym on ∙ l.invariant.same)
+pub returns-in_err-weight : goal.returns-in_err-weight
+returns-in_err-weight c =
+    let l = c.loop-weight.invariant in
+    let p = err_from_is_err_and c.from_residual.result c.from_residual.ensures.1 in
+    rw (p.1, p.2) (refusal_told (sym l.same ∙ refused_there _ _ _ _ (sym c.read_line.ensures) l.so_far c.in_err-weight.was))
 
 pub with_gate-seen-requires : goal.with_gate-seen-requires
 with_gate-seen-requires c =
-    let the_gate : GateRead (c.args.text.now) c.loop-weight.at c.loop-weight.seen.header.gates c.in-Gate.weight c.in-Gate.delay c.in-Gate.count c.in-Gate.next = let l = c.loop-weight in
-    let r = c.read_line-read in
-    gate_read (c.args.text.now) l.at l.seen.header.gates r.result r.ensures _ _ _ _ c.in-Gate.is in
-    (the_gate).fit.number
+    (gate_read _ _ _ _ _ _ _ (sym c.read_line.ensures ∙ c.in_ok-weight.was ∙ ap Ok c.in-Gate.is)).fit.number
 
 pub loop-weight-smaller : goal.loop-weight-smaller
 loop-weight-smaller c =
-    let the_gate : GateRead (c.args.text.now) c.loop-weight.at c.loop-weight.seen.header.gates c.in-Gate.weight c.in-Gate.delay c.in-Gate.count c.in-Gate.next = let l = c.loop-weight in
-    let r = c.read_line-read in
-    gate_read (c.args.text.now) l.at l.seen.header.gates r.result r.ensures _ _ _ _ c.in-Gate.is in
-    let g = the_gate in
+    let g = gate_read _ _ _ _ _ _ _ (sym c.read_line.ensures ∙ c.in_ok-weight.was ∙ ap Ok c.in-Gate.is) in
     omega (arith, g.inside, g.ahead)
 
 pub loop-weight-preserved : goal.loop-weight-preserved
 loop-weight-preserved c =
-    let the_gate : GateRead (c.args.text.now) c.loop-weight.at c.loop-weight.seen.header.gates c.in-Gate.weight c.in-Gate.delay c.in-Gate.count c.in-Gate.next = let l = c.loop-weight in
-    let r = c.read_line-read in
-    gate_read (c.args.text.now) l.at l.seen.header.gates r.result r.ensures _ _ _ _ c.in-Gate.is in
-    let l = c.loop-weight in
     rw c.with_gate-seen.ensures
-    (go_on (c.args.text.now) c.args.first _ l.at l.seen _ _ _ _ l.invariant (the_gate))
+    (go_on _ _ _ _ _ _ _ _ _ c.loop-weight.invariant
+    (gate_read _ _ _ _ _ _ _ (sym c.read_line.ensures ∙ c.in_ok-weight.was ∙ ap Ok c.in-Gate.is)))
+
+pub returns-in-End : goal.returns-in-End
+returns-in-End c =
+    let l = c.loop-weight.invariant in
+    let on = end_read _ _ _ _ (sym c.read_line.ensures ∙ c.in_ok-weight.was ∙ ap Ok c.in-End.is) l.so_far in
+    c.look_end.ensures l.so_far l.known ∙ ap (λ w. shown (weigh w)) (sym on ∙ l.same)
+
+pub returns-in_default : goal.returns-in_default
+returns-in_default c =
+    let l = c.loop-weight.invariant in
+    rw c.at_line.ensures
+    (refusal_told
+    (sym l.same ∙ no_gate_or_end _ _ _ l.so_far _ _ (sym c.read_line.ensures ∙ c.in_ok-weight.was) c.in_default.not-Gate c.in_default.not-End))

@@ -1,44 +1,17 @@
--- `selection::count_marked` meets its contract. The loop's invariant: the roots among the gates that have been
--- looked at.
-use mathlib.Core.Path.{sym, ◌∙◌, ap}
-use mathlib.Core.Logic.{inl, inr}
-use mathlib.Core.List.{[], ◌∷◌}
-use native.Mathlib.Omega.{arith}
-use lib.ListN.{length, length-append}
-use Rattle.selection.specs.Selection.{roots}
-use Rattle.selection.proofs.Roots.{roots_none, roots_marked, roots_bare, roots_seen}
+-- `selection::count_marked` meets its contract: the marks in front of the row are as many as the roots.
+use mathlib.Core.Path.{◌∙◌}
+use borrow.Author.Tests.{tests}
+use Rattle.std.proofs.Common.{rules}
+use Rattle.std.proofs.lemmas.Iterator.{YieldsList-from_slice, YieldsList-from_take}
+use Rattle.std.proofs.lemmas.Iterator.Consumers.{YieldsList-at, YieldsList-from_filter, count_from_yields_List}
+use Rattle.selection.proofs.Roots.{marked, marked_roots}
 use Rattle.selection.proofs.count_marked.Goals as goal
-use Rattle.selection.proofs.count_marked.Goals.{then-marks-v-ne0, else-marks-v-ne0}
 
-pub loop-v-init : goal.loop-v-init
-loop-v-init c =
-    (omega arith, omega arith, sym (ap length (roots_none c.args.marks.now)))
-
-pub bounds-marks-v : goal.bounds-marks-v
-bounds-marks-v c =
-    c.if-v-marks.true
-
-pub loop-v-preserved : goal.loop-v-preserved
-loop-v-preserved c =
-    let marks = c.args.marks.now in
-    let v = c.loop-v.v in
-    elim c.if-marks-v-ne0.branch [
-      | then-marks-v-ne0 w ↦ (
-        omega arith,
-        omega arith,
-        omega (arith, ap length (roots_marked marks v w.if-marks-v-ne0.true), length-append (roots marks v) (v ∷ [])),
-      )
-      | else-marks-v-ne0 w ↦ (omega arith, omega arith, omega (arith, ap length (roots_bare marks v w.if-marks-v-ne0.false)))
-    ]
-
-pub returns-else-v-marks : goal.returns-else-v-marks
-returns-else-v-marks c =
-    let a = c.args in
-    c.loop-v.invariant.2
-    ∙ sym (ap length (roots_seen a.marks.now c.loop-v.v a.gates (omega arith) (inr c.if-v-marks.false)))
-
-pub returns-after-loop-v : goal.returns-after-loop-v
-returns-after-loop-v c =
-    let a = c.args in
-    c.loop-v.invariant.2
-    ∙ sym (ap length (roots_seen a.marks.now c.loop-v.v a.gates (omega arith) (inl c.loop-v-test.false)))
+pub returns : goal.returns
+returns c =
+    let counted = count_from_yields_List c.filter.result c.count.result c.count.ensures.ran
+    (YieldsList-from_filter _ marked
+    (YieldsList-at c.filter.ensures.source (YieldsList-from_take c.args.gates (YieldsList-at c.take.ensures.source (YieldsList-from_slice c.args.marks.now (cc))) (cc)))
+    c.filter.ensures.closure
+    (λ x r q k. search (rules, tests))) in
+    counted ∙ marked_roots c.args.marks.now c.args.gates

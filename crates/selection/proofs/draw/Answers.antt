@@ -1,23 +1,24 @@
--- `selection::draw` meets its contract: a refusal of the row is handed on, and a network is selected from.
-use mathlib.Core.Path.{◌∙◌, sym, ap}
-use Rattle.texts.specs.Reading.{refused}
-use Rattle.rows.proofs.Checked.{Known, check_network, check_else}
-use Rattle.selection.proofs.Answered.{drawn_refused, drawn_told}
+-- `selection::draw` meets its contract: what refuses the row or the labels is handed on, and a network is selected from.
+use mathlib.Core.Path.{refl}
+use Rattle.std.proofs.lemmas.Result.{err_from_is_err_and}
+use Rattle.rows.proofs.Found.{found_refused}
+use Rattle.labelling.proofs.Promises.{found_answer}
+use Rattle.selection.proofs.Answered.{drawn_refused, drawn_unlabelled, drawn_told}
 use Rattle.selection.proofs.draw.Goals as goal
 
-pub draw_known-requires : goal.draw_known-requires
-draw_known-requires c =
-    let stands : let a = c.args in Known a.header c.in-Network.known a.row.now = let fit = c.type_inv.row in
-    check_network _ _ (λ i. (fit i).fits) c.check-read.ensures c.in-Network.is in
-    (stands).holds
+pub returns-in_err-network : goal.returns-in_err-network
+returns-in_err-network c =
+    let p = err_from_is_err_and c.from_residual.result c.from_residual.ensures.1 in
+    rw (p.1, p.2) (drawn_refused _ _ (found_refused _ _ c.in_err-network.ensures refl))
 
-pub returns-in_default : goal.returns-in_default
-returns-in_default c =
-    let refused-is = check_else _ _ _ c.check-read.ensures c.in_default.not-Network in
-    drawn_refused _ _ (refused-is ∙ ap refused (sym c.refusal.ensures))
+pub returns-in_err-labelled : goal.returns-in_err-labelled
+returns-in_err-labelled c =
+    let p = err_from_is_err_and c.from_residual-in_err-labelled.result c.from_residual-in_err-labelled.ensures.1 in
+    rw (p.1, p.2)
+    (drawn_told (found_answer _ _ (λ i. (c.type_inv.row i).fits) c.in_ok-network.ensures) (drawn_unlabelled c.in_ok-network.network c.in_err-labelled.ensures))
 
 pub returns : goal.returns
 returns c =
-    let stands : let a = c.args in Known a.header c.in-Network.known a.row.now = let fit = c.type_inv.row in
-    check_network _ _ (λ i. (fit i).fits) c.check-read.ensures c.in-Network.is in
-    drawn_told (stands).answered c.draw_known.ensures
+    let w = c.in_ok-labelled.ensures in
+    drawn_told (found_answer _ _ (λ i. (c.type_inv.row i).fits) c.in_ok-network.ensures)
+    (rw (w.header, w.row, w.labels) at c.draw_known.ensures)

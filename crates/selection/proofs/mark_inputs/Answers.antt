@@ -1,7 +1,7 @@
 -- `selection::mark_inputs` meets its contract. The loop's invariant: marking for the members that are left gives
 -- what marking for all of them gives from the start.
 use Prim.Native.Nat.{ℕ, ◌+◌, ◌<◌}
-use mathlib.Core.Path.{refl, sym, ◌∙◌, ap}
+use mathlib.Core.Path.{sym, ◌∙◌, ap}
 use mathlib.Core.List.{List}
 use native.Mathlib.Omega.{arith}
 use lib.ListN.{get_or, drop}
@@ -12,40 +12,25 @@ use Rattle.selection.specs.steps.Marking.{fanins_of, outside}
 use Rattle.selection.proofs.Marks.{inputs_next, inputs_done}
 use Rattle.selection.proofs.mark_inputs.Goals as goal
 
-pub loop-i-init : goal.loop-i-init
-loop-i-init c =
-    (omega arith, refl, refl, refl)
-
-pub overflow_cast-members : goal.overflow_cast-members
-overflow_cast-members c =
-    omega (arith, c.type_inv.members c.loop-i.i)
-
 pub mark_outside-requires : goal.mark_outside-requires
 mark_outside-requires c =
-    let h = c.requires.0 in
-    let member = get_or c.args.members.now c.loop-i.i 0 in
-    let known : member < c.args.header.gates = c.requires.2 _ (get_or_in _ c.loop-i.i (omega arith)) in (
-      rw c.fan_ins.ensures (λ x m. omega (arith, c.loop-i.invariant.2, c.requires.1, fanins_below _ _ h member known x m)),
-      omega (arith, c.loop-i.invariant.2, c.requires.1, few_gates _ _ h),
+    let n = c.args.network.now in
+    let member = get_or c.args.members.now c.loop-member.member-index 0 in
+    let known : member < n.header.gates = c.requires.1 _ (get_or_in _ c.loop-member.member-index (omega arith)) in (
+      rw c.fan_ins.ensures (λ x m. omega (arith, fanins_below _ _ n.holds member known x m)),
+      omega (arith, few_gates _ _ n.holds),
     )
 
-pub loop-i-preserved : goal.loop-i-preserved
-loop-i-preserved c =
+pub loop-member-preserved : goal.loop-member-preserved
+loop-member-preserved c =
     let a = c.args in
-    let call = c.mark_outside in (
-      omega arith,
-      refl,
-      omega arith,
-      ap (λ (row : List ℕ). mark row (outside a.inside.now (fanins_of a.row.now (drop (c.loop-i.i + 1) a.members.now))))
-          (call.ensures ∙ rw c.fan_ins.ensures)
-          ∙ inputs_next a.inside.now a.row.now c.loop-i.marks a.members.now c.loop-i.i (omega arith)
-          ∙ c.loop-i.invariant.3,
-    )
-
-pub shape_of-marks : goal.shape_of-marks
-shape_of-marks c =
-    c.loop-i.invariant.2
+    let row = a.network.now.row.now in
+    let i = c.loop-member.member-index in
+    ap (λ (marks : List ℕ). mark marks (outside a.inside.now (fanins_of row (drop (i + 1) a.members.now))))
+    (c.mark_outside.ensures ∙ rw c.fan_ins.ensures)
+    ∙ inputs_next a.inside.now row c.loop-member.marks a.members.now i (omega arith)
+    ∙ c.loop-member.invariant
 
 pub returns : goal.returns
 returns c =
-    sym (inputs_done _ _ _ _ c.loop-i.i (omega arith)) ∙ c.loop-i.invariant.3
+    sym (inputs_done _ _ _ _ c.loop-member.member-index (omega arith)) ∙ c.loop-member.invariant

@@ -6,9 +6,9 @@ use Rattle.selection.proofs.mark_outputs.Goals as goal
 
 pub mark_unmarked-requires : goal.mark_unmarked-requires
 mark_unmarked-requires c =
-    omega (arith, c.requires.1, few_gates _ _ c.requires.0)
+    omega (arith, c.requires, few_gates _ _ c.args.network.now.holds)
 
 pub returns : goal.returns
 unfolding unread
 returns c =
-    rw (c.mark_unmarked.ensures, c.requires.1, c.reads.ensures)
+    rw (c.mark_unmarked.ensures, c.requires, c.reads.ensures)

@@ -1,15 +1,11 @@
 -- `selection::mark_outside` meets its contract. The loop's invariant: marking what is left of the list gives what
 -- marking all of it gives from the start.
-use Prim.Native.Nat.{◌-◌, ◌≤◌}
 use mathlib.Core.Path.{◌≡◌}
-use lib.ListN.{length, drop}
+use lib.ListN.{drop}
 use Rattle.model.specs.Drawing.{mark}
 use Rattle.selection.specs.steps.Marking.{outside}
 use Rattle.selection.proofs.mark_outside.Given as goal
 
-abbrev pub invariant-loop-i : goal.invariant-loop-i
-invariant-loop-i l = (l.i ≤ length l.gates) × (l.i-end ≡ length l.gates) × (length l.marks ≡ length l.initial.marks)
-    × (mark l.marks (outside l.inside (drop l.i l.gates)) ≡ mark l.initial.marks (outside l.inside l.gates))
-
-abbrev pub decreases-loop-i : goal.decreases-loop-i
-decreases-loop-i l = length l.gates - l.i
+abbrev pub invariant-loop-gate : goal.invariant-loop-gate
+invariant-loop-gate l =
+    mark l.marks (outside l.inside (drop l.gate-index l.gates)) ≡ mark l.initial.marks (outside l.inside l.gates)

@@ -1,43 +1,31 @@
--- `selection::nth_marked` meets its contract. The loop's invariant: the roots among the gates that have been looked
--- at, and those left to pass by, are as many as the index says.
-use mathlib.Core.Path.{ap}
-use mathlib.Core.Logic.{inl, inr}
-use mathlib.Core.List.{[], ◌∷◌}
-use native.Mathlib.Omega.{arith}
-use lib.ListN.{length, length-append}
-use Rattle.selection.specs.Selection.{roots}
-use Rattle.selection.proofs.Roots.{roots_none, roots_marked, roots_bare, root_here, root_past}
+-- `selection::nth_marked` meets its contract: the marks in front of the row stand at the roots.
+use Prim.Native.Nat.{ℕ}
+use mathlib.Core.Path.{sym, ◌∙◌, ap}
+use mathlib.Core.List.{List}
+use lib.ListN.{get_or}
+use borrow.Author.Tests.{tests}
+use Rattle.std.proofs.Common.{rules}
+use Rattle.std.specs.Prelude.{Option}
+use Rattle.std.specs.Option.{unwrap_or}
+use Rattle.std.proofs.lemmas.Option.{unwrap_or-slice_get}
+use Rattle.std.proofs.lemmas.Iterator.Adapters.{option_map_id}
+use Rattle.std.proofs.lemmas.Iterator.{YieldsList-from_slice, YieldsList-from_take, YieldsList-from_map}
+use Rattle.std.proofs.lemmas.Iterator.Consumers.{YieldsList-at, YieldsList-from_filter, YieldsList-from_enumerate, nth_from_yields_List}
+use Rattle.selection.proofs.Roots.{is_root, numbered_roots}
 use Rattle.selection.proofs.nth_marked.Goals as goal
-use Rattle.selection.proofs.nth_marked.Goals.{then-marks-v-ne0+else-left-eq0, else-marks-v-ne0}
 
-pub loop-v-init : goal.loop-v-init
-loop-v-init c =
-    (omega arith, omega (arith, ap length (roots_none c.args.marks.now)))
-
-pub bounds-marks-v : goal.bounds-marks-v
-bounds-marks-v c =
-    c.if-v-marks.true
-
-pub returns-then-left-eq0 : goal.returns-then-left-eq0
-returns-then-left-eq0 c =
-    root_here _ c.loop-v.v _ _ _ (omega arith) c.if-marks-v-ne0.true (omega (arith, c.if-left-eq0.true, c.loop-v.invariant.1))
-
-pub loop-v-preserved : goal.loop-v-preserved
-loop-v-preserved c =
-    let marks = c.args.marks.now in
-    let v = c.loop-v.v in
-    elim c.if-marks-v-ne0.branch [
-      | then-marks-v-ne0+else-left-eq0 w ↦ (
-        omega arith,
-        omega (arith, ap length (roots_marked marks v w.if-marks-v-ne0.true), length-append (roots marks v) (v ∷ [])),
-      )
-      | else-marks-v-ne0 w ↦ (omega arith, omega (arith, ap length (roots_bare marks v w.if-marks-v-ne0.false)))
-    ]
-
-pub returns-else-v-marks : goal.returns-else-v-marks
-returns-else-v-marks c =
-    root_past _ c.loop-v.v _ _ (omega arith) (inr c.if-v-marks.false) (omega (arith, c.loop-v.invariant.1))
-
-pub returns-after-loop-v : goal.returns-after-loop-v
-returns-after-loop-v c =
-    root_past _ c.loop-v.v _ _ (omega arith) (inl c.loop-v-test.false) (omega (arith, c.loop-v.invariant.1))
+pub returns : goal.returns
+returns c =
+    let at_index = nth_from_yields_List c.nth.result _ _ c.nth.ensures.ran
+    (YieldsList-from_map _ (λ p. p.0)
+    (YieldsList-at c.map.ensures.source
+    (YieldsList-from_filter _ is_root
+    (YieldsList-at c.filter.ensures.source (YieldsList-from_enumerate
+    (YieldsList-at c.enumerate.ensures.source (YieldsList-from_take c.args.gates (YieldsList-at c.take.ensures.source (YieldsList-from_slice c.args.marks.now (cc))) (cc))) (cc)))
+    c.filter.ensures.closure
+    (λ x r q k. search (rules, tests))))
+    c.map.ensures.closure (λ x r q k. search rules)) in
+    c.unwrap_or.ensures
+    ∙ ap (λ (r : Option ℕ). unwrap_or r c.args.gates) (sym (option_map_id c.nth.result) ∙ at_index)
+    ∙ unwrap_or-slice_get _ c.args.index c.args.gates
+    ∙ ap (λ (roots : List ℕ). get_or roots c.args.index c.args.gates) (numbered_roots c.args.marks.now c.args.gates)

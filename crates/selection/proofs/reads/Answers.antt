@@ -3,7 +3,9 @@
 use Prim.Native.Nat.{ℕ}
 use mathlib.Core.Path.{◌≡◌, refl, ◌∙◌, ap}
 use native.Mathlib.Omega.{arith}
+use lib.ListN.{replicate}
 use Rattle.model.specs.Basics.{gather, upto}
+use Rattle.model.specs.Ceilings.{most_gates}
 use Rattle.model.specs.Drawing.{mark}
 use Rattle.rows.proofs.Holds.{few_gates, fanins_below}
 use Rattle.selection.specs.steps.Marking.{fanins_of}
@@ -12,24 +14,21 @@ use Rattle.selection.proofs.reads.Goals as goal
 
 pub loop-v-init : goal.loop-v-init
 unfolding fanins_of upto gather mark
-loop-v-init c =
-    (omega arith, refl)
+loop-v-init c = refl
 
 pub mark-requires : goal.mark-requires
 mark-requires c =
+    let holds = c.args.network.now.holds in
     rw c.fan_ins.ensures
-    (λ x m. omega (arith, few_gates _ _ c.requires, fanins_below _ _ c.requires c.loop-v.v (omega arith) x m))
+    (λ x m. omega (arith, few_gates _ _ holds, fanins_below _ _ holds c.loop-v.v (omega arith) x m))
 
 pub loop-v-preserved : goal.loop-v-preserved
 loop-v-preserved c =
-    let a = c.args in (
-      omega arith,
-      c.mark.ensures
-          ∙ rw (c.fan_ins.ensures, c.loop-v.invariant.1) (fanins_next a.row.now a.read.now c.loop-v.v),
-    )
+    c.mark.ensures
+    ∙ rw (c.fan_ins.ensures, c.loop-v.invariant) (fanins_next c.args.network.now.row.now (replicate most_gates 0) c.loop-v.v)
 
 pub returns : goal.returns
 returns c =
-    let a = c.args in
-    let e : c.loop-v.v ≡ a.header.gates = omega arith in
-    c.loop-v.invariant.1 ∙ ap (λ (k : ℕ). mark a.read.now (fanins_of a.row.now (upto k))) e
+    let n = c.args.network.now in
+    let e : c.loop-v.v ≡ n.header.gates = omega arith in
+    c.loop-v.invariant ∙ ap (λ (k : ℕ). mark (replicate most_gates 0) (fanins_of n.row.now (upto k))) e

@@ -4,6 +4,6 @@ use Rattle.selection.proofs.select.Goals as goal
 
 pub returns : goal.returns
 returns c =
-    let a = c.args in
+    let l = c.args.labelled.now in
     rw (c.sweep.ensures, c.mark_outputs.ensures)
-    (selected a.header a.row.now c.requires.0 a.labels.now)
+    (selected l.network.header l.network.row.now l.network.holds l.labels.now)

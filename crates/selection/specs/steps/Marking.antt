@@ -1,5 +1,5 @@
 -- What selection finds in the rows, step by step.
-use Rattle.std.specs.Prelude.{ℕ, max, cond, List, map, eqb, get_or, replicate}
+use Rattle.std.specs.Prelude.{ℕ, List, map, eqb, get_or, replicate}
 use Rattle.model.specs.Basics.{keep, gather, upto, largest}
 use Rattle.model.specs.Ceilings.{most_gates}
 use Rattle.model.specs.Drawing.{mark}
@@ -21,10 +21,6 @@ unread row gates = unmarked (mark (replicate most_gates 0) (fanins_of row (upto 
 -- the largest label of some gates, 0 if there are none
 unfoldable pub largest_label : List ℕ → List ℕ → ℕ
 largest_label labels gates = largest (map (λ v. get_or labels v 0) gates)
-
--- the larger of a time and a gate's label, if the gate has no mark
-abbrev pub or_label : ℕ → ℕ → ℕ → ℕ
-or_label time mark label = cond (eqb mark 0) (max time label) time
 
 -- the gates of a list without a mark among those inside
 unfoldable pub outside : List ℕ → List ℕ → List ℕ

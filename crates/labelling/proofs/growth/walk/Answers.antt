@@ -1,16 +1,15 @@
 -- `labelling::growth::walk` meets its contract. The loop's invariant: growing on gives what growing from the root gives, and the
 -- time is the largest pull of a primary input that has joined.
-use Rattle.std.proofs.Common.{◌≡◌, ◌<◌, sym, ◌∙◌, ap, add-one, List, length, get_or, arith}
+use Rattle.std.proofs.Common.{◌≡◌, ◌<◌, sym, ◌∙◌, ap, add-one, List, get_or, arith}
 use lib.Dec.{leb}
 use Rattle.std.specs.Prelude.{ℕ}
-use Rattle.model.specs.Ceilings.{most_gates}
 use Rattle.model.specs.Network.{weight}
 use Rattle.units.specs.declared.Cells.{Cells}
 use Rattle.units.specs.Units.{area_sum}
 use Rattle.rows.specs.declared.network.Network.{Network as Standing}
 use Rattle.rows.specs.Found.{network_of}
 use Rattle.rows.specs.Row.{weight_in}
-use Rattle.rows.proofs.Holds.{weight_stands, capacity_stands, few_gates, weight_most}
+use Rattle.rows.proofs.Holds.{weight_stands, capacity_stands, weight_most}
 use Rattle.labelling.proofs.Lists.{get_or_in}
 use Rattle.labelling.proofs.GrowthLaws.{Weighing, growing_starts, growing_joins, growing_stops, growing_ends, stops_next, no_next, inputs_start, inputs_join}
 use Rattle.labelling.proofs.growth.walk.Goals as goal

@@ -1,6 +1,6 @@
 -- `labelling::labels::label_all` meets its contract. The loop's invariant: the gates below v are labelled, and the places behind
 -- the gates are as they were. A label needs only the labels below it, and 32 bits hold it.
-use Rattle.std.proofs.Common.{◌<◌, arith}
+use Rattle.std.proofs.Common.{◌<◌}
 use Rattle.model.specs.Network.{size}
 use Rattle.rows.specs.Found.{network_of}
 use Rattle.rows.proofs.Holds.{network_size}

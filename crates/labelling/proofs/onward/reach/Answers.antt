@@ -1,7 +1,6 @@
 -- `labelling::onward::reach` meets its contract. The loop's invariant: visiting the gates that are left gives the whole sweep, and
 -- no sum comes near 64 bits.
-use Rattle.std.proofs.Common.{◌≡◌, suc, ◌+◌, ◌-◌, ◌<◌, ◌∙◌, ap, List, ℕ, length, take, drop, replicate, length-take, arith}
-use Rattle.rows.specs.Found.{network_of}
+use Rattle.std.proofs.Common.{◌≡◌, suc, ◌+◌, ◌-◌, ◌<◌, ◌∙◌, ap, ℕ, length, take, replicate, length-take, arith}
 use Rattle.rows.proofs.Holds.{network_size, delay_stands, fanins_stand, few_gates, fanins_below, delay_most}
 use Rattle.labelling.proofs.OnwardLaws.{cleared_front, sweep_starts, sweep_next, sweep_ends}
 use Rattle.labelling.proofs.onward.reach.Goals as goal
@@ -17,7 +16,8 @@ cleared : (c : After-fill) → c.fill.new.self ≡ replicate (suc c.args.v) 0
 cleared c =
     let long : length (take (c.args.v + 1) c.args.onward.now) ≡ suc c.args.v =
     omega (arith, length-take (c.args.v + 1) c.args.onward.now, few_gates _ _ c.args.network.now.holds) in
-    rw long at (c.fill.ensures.after (λ y e. e))
+    let zeros : c.fill.new.self ≡ replicate (length (take (c.args.v + 1) c.args.onward.now)) 0 = c.fill.ensures.after (λ y e. e) in
+    zeros ∙ ap (λ (k : ℕ). replicate k 0) long
 
 pub loop-y-init : goal.loop-y-init
 loop-y-init c = sweep_starts _ c.args.v _ _ (cleared_front c.args.v _ _ (cleared (goal.at.loop-y-init c).After-fill)) (omega arith)

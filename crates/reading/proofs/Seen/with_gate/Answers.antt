@@ -1,6 +1,7 @@
 -- `Seen::with_gate` of `reading` meets its contract.
+use Rattle.reading.specs.steps.Passes.{heavy_with}
 use Rattle.reading.proofs.Seen.with_gate.Goals as goal
 
 pub returns : goal.returns
-returns c =
-    cc
+unfolding heavy_with
+returns c = rw (c.or.ensures, c.then_some-told.ensures, c.within.ensures)
