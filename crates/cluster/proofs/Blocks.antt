@@ -1,7 +1,7 @@
 -- Laws of the blocks that print what a text answers. By the headline each is told whole, and only one past the last line has no line.
 use Rattle.std.specs.Prelude.{Result, Ok, Err}
 use Rattle.cluster.specs.declared.WriteFailed.{WriteFailed}
-use Rattle.results.specs.declared.block.Lines.{Lines}
+use Rattle.results.specs.declared.block.Block.{Block}
 use Rattle.frames.specs.declared.Refusal.{Refusal}
 use Rattle.rows.specs.declared.Header.{Header}
 use Prim.Native.Nat.{ℕ, ◌+◌, ◌*◌, ◌≤◌}
@@ -46,8 +46,8 @@ pub begins_few : {room : ℕ} {text : List ℕ} {index : ℕ} → Begins room te
 begins_few {text = text} b = omega (arith, begins_among b, (finished text []).few)
 
 -- What `tell_lines` tells is the block of that index.
-module _ {p : Result Header Refusal} {index : ℕ} {l : Lent} {out : List ℕ} {b : Result Lines Refusal} {row : List ℕ} {count bytes : ℕ}
-    (told : ToldLines p index l out b row) (is : b ≡ Ok (lines_of count bytes)) (u : Unprinted (length out) p l index) where
+module _ {p : Result Header Refusal} {index : ℕ} {l : Lent} {out : List ℕ} {b : Result Block Refusal} {row : List ℕ} {count bytes : ℕ}
+    (told : ToldLines p index l out b row) (is : b ≡ Ok (block_of count bytes)) (u : Unprinted (length out) p l index) where
   abbrev run : Prepared p l → List (List ℕ)
   run t = block (length out) t.text index
 

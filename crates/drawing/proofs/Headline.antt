@@ -1,7 +1,7 @@
 -- The promise over a whole text holds.
 use Rattle.std.specs.Prelude.{Result, Ok, Err}
-use Rattle.results.specs.Block.{lines_of}
-use Rattle.results.specs.declared.block.Lines.{Lines}
+use Rattle.results.specs.Block.{block_of}
+use Rattle.results.specs.declared.block.Block.{Block}
 use Rattle.rows.specs.declared.Header.{Header}
 use Prim.Native.Nat.{ℕ, zero, suc, ◌*◌, ◌≤◌, ◌<◌}
 use mathlib.Core.Path.{◌≡◌, refl, sym, ◌∙◌, ap}
@@ -79,10 +79,10 @@ unfolding line_answer line_row
 written_whole {line} {out} w h = let t = le-ltb (length out) (length line) h in (rw t at w.answer, rw t at w.kept)
 
 -- A first line that has room: the block is not refused, and where a line is left it has one.
-written_run : (ls : List (List ℕ)) (index : ℕ) {out : List ℕ} {r : Result Lines Refusal} {row : List ℕ} → LinesWritten (drop index ls) out r row
+written_run : (ls : List (List ℕ)) (index : ℕ) {out : List ℕ} {r : Result Block Refusal} {row : List ℕ} → LinesWritten (drop index ls) out r row
     → length (line_at index ls) ≤ length out
     → let run = fitting (length out) (drop index ls) in
-    (r ≡ Ok (lines_of (length run) (length (join run)))) × (row ≡ in_front (join run) out) × (index < length ls → 0 < length run)
+    (r ≡ Ok (block_of (length run) (length (join run)))) × (row ≡ in_front (join run) out) × (index < length ls → 0 < length run)
 unfolding lines_answer lines_row
 written_run ls index {out} w h =
     let fits : length (line_at 0 (drop index ls)) ≤ length out = omega (arith, ap length (drop_first index ls)) in (
@@ -101,7 +101,7 @@ refusal_told text {f} e q t =
     let lines = refused_lines text f e in
     rw lines (record { answer = rw q at t.answer; kept = rw q at t.kept })
 
-refusal_block : (text : List ℕ) {f : Refusal} {p : Result Header Refusal} {index : ℕ} {l : Lent} {out : List ℕ} {r : Result Lines Refusal} {row : List ℕ}
+refusal_block : (text : List ℕ) {f : Refusal} {p : Result Header Refusal} {index : ℕ} {l : Lent} {out : List ℕ} {r : Result Block Refusal} {row : List ℕ}
     → reading text ≡ refused f
     → p ≡ Err f
     → ToldLines p index l out r row
@@ -155,7 +155,7 @@ module _ (text : List ℕ) (n : Network) (before : Lent) (e : reading text ≡ n
       (told_written n (size n) labels marks refl labels_room marks_room
       (record { answer = rw (q, k, row_answered) at t.answer; kept = rw (q, k, row_answered) at t.kept }))
 
-  result_block : {index : ℕ} {p : Result Header Refusal} {l : Lent} {out : List ℕ} {r : Result Lines Refusal} {row : List ℕ} → p ≡ Ok (header_of n)
+  result_block : {index : ℕ} {p : Result Header Refusal} {l : Lent} {out : List ℕ} {r : Result Block Refusal} {row : List ℕ} → p ≡ Ok (header_of n)
       → l ≡ prepared_rows n before
       → ToldLines p index l out r row
       → LinesWritten (drop index (answer_lines text)) out r row
@@ -171,7 +171,7 @@ headline text before after p a into = go (reading text) refl
   where
     all : ((index : ℕ) (out : List ℕ) (r : Result ℕ Refusal) (row : List ℕ) → Told p index after out r row
         → LineWritten (line_at index (answer_lines text)) out r row)
-        → ((index : ℕ) (out : List ℕ) (r : Result Lines Refusal) (row : List ℕ) → ToldLines p index after out r row
+        → ((index : ℕ) (out : List ℕ) (r : Result Block Refusal) (row : List ℕ) → ToldLines p index after out r row
         → LinesWritten (drop index (answer_lines text)) out r row)
         → ((f : Refusal) → p ≡ Err f → f.number ≡ 10 → ⊥)
         → Answers text p after

@@ -1,7 +1,7 @@
 -- A whole text prepared: reading, labelling and selecting, one after the other, leave the rows that specs/Prepared.antt says.
 use Rattle.std.specs.Prelude.{Result, Ok, Err}
-use Rattle.results.specs.Block.{lines_of}
-use Rattle.results.specs.declared.block.Lines.{Lines}
+use Rattle.results.specs.Block.{block_of}
+use Rattle.results.specs.declared.block.Block.{Block}
 use Prim.Native.Nat.{ℕ, ◌≤◌, ◌<◌}
 use mathlib.Core.Path.{◌≡◌, refl, sym, ◌∙◌, ap}
 use mathlib.Core.Bool.{Bool, true, false}
@@ -185,7 +185,7 @@ tell_past {f = f} {index} out e h = tell_refused e (rw past (line_none out))
 
 -- a block told
 
-module _ {p : Result Header Refusal} {index : ℕ} {l : Lent} {out : List ℕ} {b : Result Lines Refusal} {after : List ℕ} where
+module _ {p : Result Header Refusal} {index : ℕ} {l : Lent} {out : List ℕ} {b : Result Block Refusal} {after : List ℕ} where
   pub lines_of_refusal : {f : Refusal} → p ≡ Err f → LinesWritten (drop index (refusal_lines f)) out b after
       → ToldLines p index l out b after
   unfolding tell_lines_answer tell_lines_row

@@ -1,6 +1,6 @@
 -- The four worthless builds fall, by network A: antt computes what the promises say of it.
 use Rattle.std.specs.Prelude.{Result, Ok, Err}
-use Rattle.results.specs.Block.{lines_of}
+use Rattle.results.specs.Block.{block_of}
 use Rattle.frames.specs.declared.Refusal.{Refusal}
 use Rattle.rows.specs.declared.Header.{Header}
 use Prim.Native.Nat.{ℕ}
@@ -146,7 +146,7 @@ idle leaves =
       rows = λ text l. leaves (reading text) l;
       told = λ p index l out. Ok 0;
       line = λ p index l out. out;
-      told_lines = λ p index l out. Ok (lines_of 0 0);
+      told_lines = λ p index l out. Ok (block_of 0 0);
       lines = λ p index l out. out;
     }
 

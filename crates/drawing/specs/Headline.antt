@@ -1,8 +1,8 @@
 -- The promise over a whole text, in one place: whatever `prepare` and then `tell` or `tell_lines` do by their contracts, the
 -- lines told are exactly those that the text answers, which are the model's result of the network that it spells, or its one refusal.
 use Rattle.std.specs.Prelude.{ℕ, ◌*◌, ◌≤◌, ◌<◌, ◌≡◌, List, ◌++◌, length, drop, Result, Ok, Err}
-use Rattle.results.specs.Block.{lines_of}
-use Rattle.results.specs.declared.block.Lines.{Lines}
+use Rattle.results.specs.Block.{block_of}
+use Rattle.results.specs.declared.block.Block.{Block}
 use Rattle.rows.specs.declared.Header.{Header}
 use Rattle.model.specs.Ceilings.{most_gates}
 use Rattle.texts.specs.Spelling.{join}
@@ -33,13 +33,13 @@ pub record Answers (text : List ℕ) (p : Result Header Refusal) (l : Lent) : Ty
       × (row ≡ line_at index (answer_lines text) ++ drop (length (line_at index (answer_lines text))) out)
   -- a block has the text's own lines from its index on, as many whole ones as have room
   pub lines :
-      (index : ℕ) (out : List ℕ) (r : Result Lines Refusal) (row : List ℕ) → ToldLines p index l out r row
+      (index : ℕ) (out : List ℕ) (r : Result Block Refusal) (row : List ℕ) → ToldLines p index l out r row
       → LinesWritten (drop index (answer_lines text)) out r row
   -- with room for the longest line it is never refused, and has a line wherever one is left
   pub block_room :
-      (index : ℕ) (out : List ℕ) (r : Result Lines Refusal) (row : List ℕ) → ToldLines p index l out r row → most_line ≤ length out
+      (index : ℕ) (out : List ℕ) (r : Result Block Refusal) (row : List ℕ) → ToldLines p index l out r row → most_line ≤ length out
       → let run = fitting (length out) (drop index (answer_lines text)) in
-      (r ≡ Ok (lines_of (length run) (length (join run)))) × (row ≡ in_front (join run) out) × (index < length (answer_lines text) → 0 < length run)
+      (r ≡ Ok (block_of (length run) (length (join run)))) × (row ≡ in_front (join run) out) × (index < length (answer_lines text) → 0 < length run)
   -- [B9] such rows suffice for every text
   pub never_10 : (f : Refusal) → p ≡ Err f → f.number ≡ 10 → ⊥
 

@@ -11,7 +11,7 @@ use Rattle.rows.specs.Row.{too_short, header_of, fill}
 use Rattle.rows.specs.Spelling.{row_answer}
 use Rattle.frames.specs.Put.{line_at, line_answer, line_row}
 use Rattle.labelling.specs.Promises.{written, either_short}
-use Rattle.results.specs.declared.block.Lines.{Lines}
+use Rattle.results.specs.declared.block.Block.{Block}
 use Rattle.drawing.specs.declared.Prepared.{Prepared}
 use Rattle.results.specs.Line.{told_answer, told_row}
 use Rattle.results.specs.Block.{lines_answer, lines_row, block_answer, block_row, refusal_lines}
@@ -73,7 +73,7 @@ pub record Told (p : Result Header Refusal) (index : ℕ) (l : Lent) (out : List
   pub kept : after ≡ tell_row p index l out
 
 -- Lines of what was prepared, a block at a time.
-unfoldable pub tell_lines_answer : Result Header Refusal → ℕ → Lent → List ℕ → Result Lines Refusal
+unfoldable pub tell_lines_answer : Result Header Refusal → ℕ → Lent → List ℕ → Result Block Refusal
 tell_lines_answer (Err f) index l out = lines_answer (drop index (refusal_lines f)) out
 tell_lines_answer (Ok h) index l out =
     block_answer index (row_answer h l.row) l.labels l.marks out
@@ -83,6 +83,6 @@ tell_lines_row (Err f) index l out = lines_row (drop index (refusal_lines f)) ou
 tell_lines_row (Ok h) index l out =
     block_row index (row_answer h l.row) l.labels l.marks out
 
-pub record ToldLines (p : Result Header Refusal) (index : ℕ) (l : Lent) (out : List ℕ) (r : Result Lines Refusal) (after : List ℕ) : Type 0 where
+pub record ToldLines (p : Result Header Refusal) (index : ℕ) (l : Lent) (out : List ℕ) (r : Result Block Refusal) (after : List ℕ) : Type 0 where
   pub answer : r ≡ tell_lines_answer p index l out
   pub kept : after ≡ tell_lines_row p index l out

@@ -1,6 +1,6 @@
 -- Four worthless builds: none of them keeps what `prepare`, `tell` and `tell_lines` promise.
 use Rattle.std.specs.Prelude.{ℕ, ◌≡◌, ◌⊎◌, false, List, set, Result, Ok, Err}
-use Rattle.results.specs.declared.block.Lines.{Lines}
+use Rattle.results.specs.declared.block.Block.{Block}
 use Rattle.rows.specs.declared.Header.{Header}
 use Rattle.model.specs.Network.{Network, size}
 use Rattle.model.specs.Label.{label}
@@ -16,7 +16,7 @@ pub record Build : Type 0 where
   pub rows : List ℕ → Lent → Lent
   pub told : Result Header Refusal → ℕ → Lent → List ℕ → Result ℕ Refusal
   pub line : Result Header Refusal → ℕ → Lent → List ℕ → List ℕ
-  pub told_lines : Result Header Refusal → ℕ → Lent → List ℕ → Result Lines Refusal
+  pub told_lines : Result Header Refusal → ℕ → Lent → List ℕ → Result Block Refusal
   pub lines : Result Header Refusal → ℕ → Lent → List ℕ → List ℕ
 
 -- It keeps the promises, whatever it is given: these are the contracts of the three functions.

@@ -9,7 +9,7 @@ ghost use Rattle.drawing.specs.Prepared.{lent_of, lent_in, any_short, prepared_l
 ghost use Rattle.drawing.specs.steps.Preparing.{Readable};
 
 use frames::Refusal;
-use results::block::Lines;
+use results::block::Block;
 use rows::Header;
 
 // Whether a row is shorter than so many gates need.
@@ -76,7 +76,7 @@ impl Prepared<'_> {
 
     // As many whole lines of what a text came to as the row has room for, from the line of that index on; past the last line
     // none. A row too short for the first of them answers 10 and is left as it was.
-    pub fn tell_lines(&self, index: usize, out: &mut [u8]) -> Result<Lines, Refusal>
+    pub fn tell_lines(&self, index: usize, out: &mut [u8]) -> Result<Block, Refusal>
         ensures { ToldLines self.now.answer index (lent_in self.now) out.old result out.new }
     {
         match self.answer {

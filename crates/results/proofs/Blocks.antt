@@ -1,7 +1,8 @@
 -- Laws of specs/Block.antt: what is answered in each case.
 use Rattle.std.specs.Prelude.{Result, Ok, Err}
-use Rattle.results.specs.Block.{lines_of}
-use Rattle.results.specs.declared.block.Lines.{Lines}
+use Rattle.std.specs.Result.{result_unwrap_or}
+use Rattle.results.specs.Block.{block_of}
+use Rattle.results.specs.declared.block.Block.{Block}
 use Prim.Native.Nat.{ℕ, zero, suc, ◌+◌, ◌*◌, ◌-◌, ◌≤◌, ◌<◌}
 use mathlib.Core.Path.{◌≡◌, refl, sym, ◌∙◌, ap}
 use mathlib.Core.Logic.{⊎_elim}
@@ -66,7 +67,7 @@ module _ (line out : List ℕ) (at : ℕ) (within : at ≤ length out) where
   behind = drop_of_length-le (drop at out) {i = length out - at} (omega (arith, length-drop at out))
 
   module _ {r : Result ℕ Refusal} {row : List ℕ} (w : LineWritten line part r row) where
-    pub not_added : {f : Refusal} → r ≡ Err f → Added line at out 0 (take at out ++ (row ++ drop (length out - at) (drop at out)))
+    not_added : {f : Refusal} → r ≡ Err f → Added line at out 0 (take at out ++ (row ++ drop (length out - at) (drop at out)))
     unfolding if_fits
     not_added e =
         let h = lacks_room line part w e in
@@ -75,7 +76,7 @@ module _ (line out : List ℕ) (at : ℕ) (within : at ≤ length out) where
         let here : at + 0 ≡ at = omega arith in
         record { many = rw t; row_is = rw (t, behind, kept, append-nil, here) }
 
-    pub added : {bytes : ℕ} → r ≡ Ok bytes → Added line at out bytes (take at out ++ (row ++ drop (length out - at) (drop at out)))
+    added : {bytes : ℕ} → r ≡ Ok bytes → Added line at out bytes (take at out ++ (row ++ drop (length out - at) (drop at out)))
     unfolding if_fits
     added e =
         let h = has_room line part w e in
@@ -83,9 +84,17 @@ module _ (line out : List ℕ) (at : ℕ) (within : at ≤ length out) where
         let kept : row ≡ line ++ drop (at + length line) out = h.2 ∙ rw (part_is, drop-drop) in
         record { many = rw t h.1; row_is = rw (t, behind, kept, append-nil, h.1) }
 
+    -- The bytes are none where the line has no room.
+    pub put_from : Added line at out (result_unwrap_or r 0) (take at out ++ (row ++ drop (length out - at) (drop at out)))
+    put_from = by r refl
+      where
+        by : (k : Result ℕ Refusal) → r ≡ k → Added line at out (result_unwrap_or k 0) (take at out ++ (row ++ drop (length out - at) (drop at out)))
+        by (Ok n) e = added e
+        by (Err f) e = not_added e
+
 -- no line left, a first line without room, and a first line with room
 
-none_left : (out : List ℕ) → LinesWritten [] out (Ok (lines_of 0 0)) out
+none_left : (out : List ℕ) → LinesWritten [] out (Ok (block_of 0 0)) out
 unfolding lines_answer lines_row run_answer fitting join
 none_left out = record { answer = refl; kept = refl }
 
@@ -100,7 +109,7 @@ first_fits [] room h = refl
 first_fits (l ∷ ls) room h = rw (le-ltb room (length l) h)
 
 pub some_fit : (ls : List (List ℕ)) (room : ℕ) → length (line_at 0 ls) ≤ room
-    → run_answer ls (fitting room ls) ≡ Ok (lines_of (length (fitting room ls)) (length (join (fitting room ls))))
+    → run_answer ls (fitting room ls) ≡ Ok (block_of (length (fitting room ls)) (length (join (fitting room ls))))
 unfolding fitting line_at run_answer join
 some_fit [] room h = refl
 some_fit (l ∷ ls) room h = rw (le-ltb room (length l) h)
@@ -147,7 +156,7 @@ module _ (ls : List (List ℕ)) (out : List ℕ) {r : Result ℕ Refusal} {row :
               (sym (ap (drop (length (line_at 0 ls))) row_is ∙ drop_at (line_at 0 ls) (drop (length (line_at 0 ls)) out) (length (line_at 0 ls)) refl)));
         }
 
-    lines_ran : {b : Lines} {after : List ℕ} → Ran ls row b after → LinesWritten ls out (Ok b) after
+    lines_ran : {b : Block} {after : List ℕ} → Ran ls row b after → LinesWritten ls out (Ok b) after
     unfolding lines_answer lines_row
     lines_ran ran =
         let fit = fitting (length out) ls in
@@ -164,7 +173,7 @@ module _ (ls : List (List ℕ)) (out : List ℕ) {r : Result ℕ Refusal} {row :
 -- the one line of a refusal
 
 module _ (index : ℕ) (told : Refusal) (out : List ℕ) where
-  pub refusal_none : 0 < index → LinesWritten (drop index (refusal_lines told)) out (Ok (lines_of 0 0)) out
+  pub refusal_none : 0 < index → LinesWritten (drop index (refusal_lines told)) out (Ok (block_of 0 0)) out
   refusal_none h = rw (drop_of_length-le (refusal_lines told) {i = index} (omega arith)) (none_left out)
 
   module _ {r : Result ℕ Refusal} {row : List ℕ} (first : index ≡ 0) (w : LineWritten (spell_line (refusal_bytes told)) out r row) where
@@ -177,7 +186,7 @@ module _ (index : ℕ) (told : Refusal) (out : List ℕ) where
         let h = lacks_room (spell_line (refusal_bytes told)) out w e in
         rw first (lines_refused (refusal_lines told) out first_line h.1 e)
 
-    pub refusal_whole : {bytes : ℕ} → r ≡ Ok bytes → LinesWritten (drop index (refusal_lines told)) out (Ok (lines_of 1 bytes)) row
+    pub refusal_whole : {bytes : ℕ} → r ≡ Ok bytes → LinesWritten (drop index (refusal_lines told)) out (Ok (block_of 1 bytes)) row
     unfolding lines_answer lines_row run_answer fitting join
     refusal_whole e =
         let h = has_room (spell_line (refusal_bytes told)) out w e in
@@ -222,7 +231,7 @@ module _ (n : Network) (labels row : List ℕ) where
   told_first index = told_at index ∙ sym (drop_first index (drawn_lines n labels row))
 
   -- the first line of those that are left decides
-  module _ {index : ℕ} {out : List ℕ} {r : Result ℕ Refusal} {row' : List ℕ} (w : LineWritten (told_line index n labels row) out r row') where
+  module _ (index : ℕ) {out : List ℕ} {r : Result ℕ Refusal} {row' : List ℕ} (w : LineWritten (told_line index n labels row) out r row') where
     first_written : LineWritten (line_at 0 (drop index (drawn_lines n labels row))) out r row'
     first_written = rw (← told_first index) w
 
@@ -235,7 +244,7 @@ module _ (n : Network) (labels row : List ℕ) where
       pub first_begun : Begun (drop index (drawn_lines n labels row)) first row'
       first_begun = lines_begun (drop index (drawn_lines n labels row)) out first_written e
 
-      pub first_ran : {b : Lines} {after : List ℕ} → Ran (drop index (drawn_lines n labels row)) row' b after
+      pub first_ran : {b : Block} {after : List ℕ} → Ran (drop index (drawn_lines n labels row)) row' b after
           → LinesWritten (drop index (drawn_lines n labels row)) out (Ok b) after
       first_ran ran = lines_ran (drop index (drawn_lines n labels row)) out first_written e ran
 
@@ -247,7 +256,7 @@ unfolding block_answer block_row
 block_refused (refused g) index labels row out h = record { answer = ap (λ k. Err k) h; kept = refl }
 block_refused (network n) index labels row out h = record { answer = rw h.0 (ap (λ k. Err k) h.1); kept = rw h.0 }
 
-pub block_told : {reading : Reading} {n : Network} {labels row : List ℕ} (index : ℕ) (out : List ℕ) {b : Result Lines Refusal} {after : List ℕ}
+pub block_told : {reading : Reading} {n : Network} {labels row : List ℕ} (index : ℕ) (out : List ℕ) {b : Result Block Refusal} {after : List ℕ}
     → reading ≡ network n → either_short (size n) labels row ≡ false
     → LinesWritten (drop index (drawn_lines n labels row)) out b after
     → BlockAnswered index reading labels row out b after

@@ -14,23 +14,23 @@ use rows::Header;
 
 // A run of lines: how many stand in the row, and their bytes.
 #[derive(Clone, Copy)]
-pub struct Lines {
+pub struct Block {
     pub count: usize,
     pub length: usize,
 }
 
 // The one line of a refusal; past it nothing.
-pub fn refusal_lines(index: usize, refusal: Refusal, out: &mut [u8]) -> Result<Lines, Refusal>
+pub fn refusal_lines(index: usize, refusal: Refusal, out: &mut [u8]) -> Result<Block, Refusal>
     ensures { LinesWritten (drop index (refusal_lines refusal)) out.old result out.new }
 {
     if index > 0 {
-        return Ok(Lines {
+        return Ok(Block {
             count: 0,
             length: 0,
         });
     }
     let length = refusal_line(refusal, out)?;
-    Ok(Lines { count: 1, length })
+    Ok(Block { count: 1, length })
 }
 
 // The line of that index put into the row from a place on: its bytes, 0 where no line is left or it has no room.
@@ -45,7 +45,7 @@ fn line_from(index: usize, at: usize, drawn: &Marked, out: &mut [u8]) -> usize
 }
 
 // The lines behind the first one, which stands in front of the row with so many bytes: as many as have room.
-fn lines_behind(index: usize, first: usize, drawn: &Marked, out: &mut [u8]) -> Lines
+fn lines_behind(index: usize, first: usize, drawn: &Marked, out: &mut [u8]) -> Block
     requires { Begun
         (drop index
         (drawn_lines (network_of drawn.now.labelled.network) drawn.now.labelled.labels.now drawn.now.marks.now))
@@ -63,7 +63,7 @@ fn lines_behind(index: usize, first: usize, drawn: &Marked, out: &mut [u8]) -> L
         count += 1;
         length = line_from(index + count, at, drawn, out);
     }
-    Lines { count, length: at }
+    Block { count, length: at }
 }
 
 // The lines from that index on of the result of the network that stands in the row, from its labels and the marks of its
@@ -76,7 +76,7 @@ pub fn lines(
     labels: &[u32],
     marks: &[u8],
     out: &mut [u8],
-) -> Result<Lines, Refusal>
+) -> Result<Block, Refusal>
     ensures { BlockAnswered index (row_answer header row.now) labels.now marks.now out.old result out.new }
 {
     let drawn = Marked::find(header, row, labels, marks)?;

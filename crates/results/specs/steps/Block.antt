@@ -2,8 +2,8 @@
 use Rattle.std.specs.Prelude.{ℕ, ◌+◌, ◌-◌, ◌≡◌, cond, List, [], ◌++◌, ltb, length, take, drop}
 use Rattle.texts.specs.Spelling.{join}
 use Rattle.frames.specs.Put.{line_at}
-use Rattle.results.specs.declared.block.Lines.{Lines}
-use Rattle.results.specs.Block.{fitting, in_front, lines_of, lines_row}
+use Rattle.results.specs.declared.block.Block.{Block}
+use Rattle.results.specs.Block.{fitting, in_front, block_of, lines_row}
 
 -- a line that has room, or nothing
 unfoldable pub if_fits : ℕ → List ℕ → List ℕ
@@ -20,6 +20,6 @@ pub record Begun (ls : List (List ℕ)) (first : ℕ) (out : List ℕ) : Type 0 
   pub stands : out ≡ in_front (line_at 0 (fitting (length out) ls)) out
 
 -- All that fit stand in front of the row.
-pub record Ran (ls : List (List ℕ)) (out : List ℕ) (r : Lines) (row : List ℕ) : Type 0 where
-  pub answer : r ≡ lines_of (length (fitting (length out) ls)) (length (join (fitting (length out) ls)))
+pub record Ran (ls : List (List ℕ)) (out : List ℕ) (r : Block) (row : List ℕ) : Type 0 where
+  pub answer : r ≡ block_of (length (fitting (length out) ls)) (length (join (fitting (length out) ls)))
   pub kept : row ≡ lines_row ls out

@@ -1,5 +1,5 @@
 -- What a network with labels and marks is found in.
-use Rattle.std.specs.Prelude.{◌≡◌, ◌×◌, ℕ, cond, List, Result, IfOk, IfErr}
+use Rattle.std.specs.Prelude.{◌≡◌, ℕ, true, List, Result, IfOk, IfErr}
 use Rattle.model.specs.Network.{size}
 use Rattle.frames.specs.declared.Refusal.{Refusal}
 use Rattle.frames.specs.Refusal.{no_room}

@@ -9,7 +9,7 @@ use Rattle.rows.specs.Found.{network_of}
 use Rattle.rows.proofs.Holds.{few_gates}
 use Rattle.results.specs.declared.marked.Marked.{Marked}
 use Rattle.results.specs.Block.{drawn_lines, fitting}
-use Rattle.results.proofs.Marked.{gates_of}
+use Rattle.results.proofs.Roomy.{gates_of}
 use Rattle.results.proofs.Fitting.{fitting_few, drop_full, drop_at_line, running_starts, running_room, running_kept, running_more, running_turns, running_ends}
 use Rattle.results.proofs.Blocks.{lines_full, lines_count}
 use Rattle.results.proofs.block.lines_behind.Goals as goal

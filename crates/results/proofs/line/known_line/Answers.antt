@@ -13,8 +13,7 @@ use Rattle.selection.proofs.Roots.{roots_few}
 use Rattle.results.specs.Line.{told_line}
 use Rattle.results.specs.declared.marked.Marked.{Marked}
 use Rattle.results.proofs.LineAt.{first_at, label_at, later_at}
-use Rattle.results.proofs.Marked.{gates_of}
-use Rattle.results.proofs.OutputDelay.{delay_held}
+use Rattle.results.proofs.Roomy.{gates_of}
 use Rattle.results.proofs.line.known_line.Goals as goal
 
 few : (m : Marked) → m.labelled.network.header.gates ≤ 512
@@ -36,9 +35,10 @@ pub returns-then-index-eq0 : goal.returns-then-index-eq0
 unfolding told_line
 returns-then-index-eq0 c =
     let m = c.args.drawn.now in
-    let small : (i : ℕ) → get_or m.labelled.labels.now i 0 < 2 ^ 32 = ? in
-    let delay = sym (delay_held (net m) m.labelled.labels.now small) ∙ ap (held 32) (sym c.output_delay-delay.ensures) in
-    rw (first_at (net m) m.labelled.labels.now (drawn_roots m) c.if-index-eq0.true, gates_of m, delay, ← c.count_marked-clusters.ensures) c.result_line.ensures
+    let d = c.output_delay-delay in
+    let held_whole : held 32 d.result.0 ≡ d.result.0 = omega (arith, d.ensures.small) in
+    rw (first_at (net m) m.labelled.labels.now (drawn_roots m) c.if-index-eq0.true, gates_of m, ← d.ensures.delay, ← c.count_marked-clusters.ensures)
+    (rw held_whole at c.result_line.ensures)
 
 pub overflow_cast-gate : goal.overflow_cast-gate
 overflow_cast-gate c = omega (arith, few c.args.drawn.now)

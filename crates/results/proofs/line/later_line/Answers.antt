@@ -11,7 +11,7 @@ use Rattle.selection.specs.Selection.{roots}
 use Rattle.selection.proofs.Roots.{root_known}
 use Rattle.results.specs.declared.marked.Marked.{Marked}
 use Rattle.results.proofs.LineAt.{cluster_at, end_at, none_at}
-use Rattle.results.proofs.Marked.{gates_of}
+use Rattle.results.proofs.Roomy.{gates_of}
 use Rattle.results.proofs.line.later_line.Goals as goal
 
 abbrev drawn_roots : Marked → List ℕ

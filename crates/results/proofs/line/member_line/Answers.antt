@@ -16,7 +16,7 @@ few : (n : Standing) → n.header.gates ≤ 512
 few n = few_gates n.header n.row.now n.holds
 
 pub members_of-count-requires : goal.members_of-count-requires
-members_of-count-requires c = ?
+members_of-count-requires c = record { known = c.requires; room = few c.args.labelled.now.network }
 
 pub overflow_cast-root : goal.overflow_cast-root
 overflow_cast-root c = omega (arith, few c.args.labelled.now.network)
