@@ -17,7 +17,7 @@ use Rattle.model.specs.Ceilings.{most_gates}
 use Rattle.model.proofs.Lists.{true_or_false}
 use Rattle.frames.proofs.Tests.{never}
 use Rattle.texts.specs.Spelling.{join}
-use Rattle.results.specs.Block.{in_front}
+use Rattle.results.specs.Block.{block_of, in_front}
 use Rattle.results.proofs.Fitting.{fitting_few}
 use Rattle.drawing.specs.Answer.{answer_lines}
 use Rattle.drawing.specs.Demands.{most_line}
@@ -46,23 +46,26 @@ pub begins_few : {room : ℕ} {text : List ℕ} {index : ℕ} → Begins room te
 begins_few {text = text} b = omega (arith, begins_among b, (finished text []).few)
 
 -- What `tell_lines` tells is the block of that index.
-module _ {p : Result Header Refusal} {index : ℕ} {l : Lent} {out : List ℕ} {b : Result Block Refusal} {row : List ℕ} {count bytes : ℕ}
-    (told : ToldLines p index l out b row) (is : b ≡ Ok (block_of count bytes)) (u : Unprinted (length out) p l index) where
+module _ {p : Result Header Refusal} {index : ℕ} {l : Lent} {out : List ℕ} {b : Result Block Refusal} {row : List ℕ} {made : Block}
+    (told : ToldLines p index l out b row) (is : b ≡ Ok made) (u : Unprinted (length out) p l index) where
   abbrev run : Prepared p l → List (List ℕ)
   run t = block (length out) t.text index
 
-  told_counts : (t : Prepared p l) → (count ≡ length (run t)) × (bytes ≡ length (join (run t)))
-  told_counts t = let same = sym is ∙ ((answers t).block_room index out b row told u.roomy).0 in (cc, cc)
+  told_counts : (t : Prepared p l) → (made.count ≡ length (run t)) × (made.length ≡ length (join (run t)))
+  told_counts t =
+      let both = sym is ∙ ((answers t).block_room index out b row told u.roomy).0 in
+      let same : made ≡ block_of (length (run t)) (length (join (run t))) = cc in
+      (ap (λ (k : Block). k.count) same, ap (λ (k : Block). k.length) same)
 
   front : row ≡ in_front (join (run u.prepared)) out
   front = ((answers u.prepared).block_room index out b row told u.roomy).1
 
-  pub told_within : bytes ≤ length row
+  pub told_within : made.length ≤ length row
   told_within =
       let bytes = join (run u.prepared) in
       omega (arith, told_counts u.prepared, ap length front, length-append bytes (drop (length bytes) out))
 
-  pub told_bytes : BlockBytes count (take bytes row)
+  pub told_bytes : BlockBytes made.count (take made.length row)
   told_bytes =
       let t = u.prepared in
       record {
@@ -70,10 +73,10 @@ module _ {p : Result Header Refusal} {index : ℕ} {l : Lent} {out : List ℕ} {
         text = t.text;
         index = index;
         lines = (told_counts t).0;
-        whole = rw front (take_at _ _ bytes (sym (told_counts t).1));
+        whole = rw front (take_at _ _ made.length (sym (told_counts t).1));
       }
 
-  pub block_printed : {r : Result ℕ WriteFailed} → Prints count r → BlockPrinted (length out) p l index r
+  pub block_printed : {r : Result ℕ WriteFailed} → Prints made.count r → BlockPrinted (length out) p l index r
   block_printed printed t = rw (told_counts t).0 at printed
 
 -- only past the last line a block has no line

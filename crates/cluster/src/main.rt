@@ -33,7 +33,11 @@ fn show(bytes: &[u8], count: usize) -> Result<usize, WriteFailed>
     requires { BlockBytes count bytes.now }
     ensures { Prints count result }
 {
-    io::write_all(1, bytes).then_some(count).ok_or(WriteFailed)
+    if io::write_all(1, bytes) {
+        Ok(count)
+    } else {
+        Err(WriteFailed)
+    }
 }
 
 // [R7] The lines from that index on that have room in the last row, printed; how many, 0 only past the last line. That index

@@ -152,7 +152,7 @@ module _ (text : List ℕ) (n : Network) (before : Lent) (e : reading text ≡ n
   unfolding tell_answer tell_row prepared_rows
   result_told {index} q k t =
       rw (← told_lines index)
-      (told_written n (size n) labels marks refl labels_room marks_room
+      (told_written n labels marks labels_room marks_room
       (record { answer = rw (q, k, row_answered) at t.answer; kept = rw (q, k, row_answered) at t.kept }))
 
   result_block : {index : ℕ} {p : Result Header Refusal} {l : Lent} {out : List ℕ} {r : Result Block Refusal} {row : List ℕ} → p ≡ Ok (header_of n)

@@ -1,5 +1,6 @@
 -- A whole text prepared: reading, labelling and selecting, one after the other, leave the rows that specs/Prepared.antt says.
 use Rattle.std.specs.Prelude.{Result, Ok, Err}
+use Rattle.selection.specs.declared.Drawn.{Drawn}
 use Rattle.results.specs.Block.{block_of}
 use Rattle.results.specs.declared.block.Block.{Block}
 use Prim.Native.Nat.{ℕ, ◌≤◌, ◌<◌}
@@ -88,7 +89,7 @@ module _ (text : List ℕ) (h : Header) (l : Lent) (r : Readable text h l) where
     unfolding label_row
     labels_row a = let wide = le-ltb (length l.labels) (size n) room.labels in rw (told, wide) at a.kept
 
-    marks_row : {labels : List ℕ} {d : Drawing} {marks : List ℕ} → labels ≡ written (labels_of n) l.labels
+    marks_row : {labels : List ℕ} {d : Result Drawn Refusal} {marks : List ℕ} → labels ≡ written (labels_of n) l.labels
         → DrawingAnswered (row_answer h row) labels l.marks d marks
         → marks ≡ marks_of n (labels_of n) ++ drop (size n) l.marks
     unfolding drawn_row
@@ -101,7 +102,7 @@ module _ (text : List ℕ) (h : Header) (l : Lent) (r : Readable text h l) where
         ∙ ap (λ (row : List ℕ). row ++ drop (size n) l.marks)
         (ap (marks_of n) e ∙ marks_same n (written (labels_of n) l.labels) (labels_of n) (labels_same n l.labels))
 
-    pub prepared_filled : {a : Result (Unit {0}) Refusal} {labels : List ℕ} {d : Drawing} {marks : List ℕ} → LabelledInto h row l.labels a labels
+    pub prepared_filled : {a : Result (Unit {0}) Refusal} {labels : List ℕ} {d : Result Drawn Refusal} {marks : List ℕ} → LabelledInto h row l.labels a labels
         → DrawingAnswered (row_answer h row) labels l.marks d marks
         → lent_of row labels marks ≡ prepared_lent (reading text) l
     unfolding prepared_lent prepared_rows
@@ -112,12 +113,12 @@ module _ (text : List ℕ) (h : Header) (l : Lent) (r : Readable text h l) where
 
 -- What a text answers, told by what was seen of it.
 module _ (text : List ℕ) (l : Lent) {seen : Result Header Refusal} (look : seen ≡ shown (reading text)) where
-  pub prepared_refused : {f : Refusal} → seen ≡ Err f → PreparedInto text l seen l
+  pub prepared_refused : {f : Refusal} → seen ≡ Err f → PreparedInto text l (Err f) l
   unfolding shown prepared_answer prepared_lent
-  prepared_refused is = go (reading text) refl
+  prepared_refused {f} is = go (reading text) refl
     where
-      go : (r : Reading) → reading text ≡ r → PreparedInto text l seen l
-      go (refused f) q = record { answer = rw q (look ∙ ap shown q); lent = rw q }
+      go : (r : Reading) → reading text ≡ r → PreparedInto text l (Err f) l
+      go (refused g) q = record { answer = rw q (sym is ∙ look ∙ ap shown q); lent = rw q }
       go (network m) q = let same = sym is ∙ look ∙ ap shown q in never cc
 
   module _ {h : Header} (is : seen ≡ Ok h) {short : Bool} (test : short ≡ any_short h.gates l) where

@@ -50,8 +50,8 @@ label_told_0 :
 unfolding label_told label_answer
 label_told_0 h row labels = (go (row_answer h row) (row_numbered h row), λ e. rw e)
   where
-    room : (short : Bool) → (label_told (cond short (Err no_room) Ok (tt {0}))).number ≡ 0
-        → cond short (Err no_room) Ok (tt {0}) ≡ Ok (tt {0})
+    room : (short : Bool) → (label_told (cond short (Err no_room) (Ok (tt {0})))).number ≡ 0
+        → cond short (Err no_room) (Ok (tt {0})) ≡ Ok (tt {0})
     room true z = absurd (omega (arith, z))
     room false z = refl
 

@@ -39,14 +39,10 @@ impl From<Result<usize, Refusal>> for Answer {
                 column: 0,
                 length,
             },
-            Err(Refusal {
-                number,
-                line,
-                column,
-            }) => Answer {
-                number,
-                line,
-                column,
+            Err(refusal) => Answer {
+                number: refusal.number,
+                line: refusal.line,
+                column: refusal.column,
                 length: 0,
             },
         }
@@ -70,7 +66,7 @@ pub extern "C" fn lykophene_label(
         hop: Ticks(u64::from(hop)),
         gates,
     };
-    Answer::from(labelling::label(header, row, labels).map(|()| 0))
+    Answer::from(labelling::label(header, row, labels).and(Ok(0)))
 }
 
 // [R6] The line of that index, counted from 0, of what a text answers, in front of the lent row, and its length; past the last

@@ -23,6 +23,7 @@ use Rattle.frames.specs.Put.{line_at, line_answer, line_row, LineWritten}
 use Rattle.texts.specs.Reading.{Reading, refused, network}
 use Rattle.texts.specs.Spelling.{join}
 use Rattle.labelling.specs.Promises.{either_short}
+use Rattle.labelling.proofs.Room.{room}
 use Rattle.selection.specs.Selection.{roots}
 use Rattle.selection.proofs.Roots.{roots_few}
 use Rattle.results.specs.Result.{result_lines, refusal_bytes}
@@ -262,3 +263,11 @@ pub block_told : {reading : Reading} {n : Network} {labels row : List ℕ} (inde
     → BlockAnswered index reading labels row out b after
 unfolding block_answer block_row
 block_told index out e t w = record { answer = rw (e, t) w.answer; kept = rw (e, t) w.kept }
+
+-- and what is answered where labels and marks have room
+pub block_written : (n : Network) (labels row : List ℕ) {index : ℕ} {out : List ℕ} {b : Result Block Refusal} {after : List ℕ}
+    → size n ≤ length labels → size n ≤ length row → BlockAnswered index (network n) labels row out b after
+    → LinesWritten (drop index (drawn_lines n labels row)) out b after
+unfolding block_answer block_row
+block_written n labels row h l a =
+    let t = room (size n) labels row h l in record { answer = rw t at a.answer; kept = rw t at a.kept }
