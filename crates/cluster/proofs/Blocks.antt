@@ -1,4 +1,9 @@
 -- Laws of the blocks that print what a text answers. By the headline each is told whole, and only one past the last line has no line.
+use Rattle.std.specs.Prelude.{Result, Ok, Err}
+use Rattle.cluster.specs.declared.WriteFailed.{WriteFailed}
+use Rattle.results.specs.declared.block.Block.{Block}
+use Rattle.frames.specs.declared.Refusal.{Refusal}
+use Rattle.rows.specs.declared.Header.{Header}
 use Prim.Native.Nat.{ℕ, ◌+◌, ◌*◌, ◌≤◌}
 use mathlib.Core.Path.{◌≡◌, refl, sym, ◌∙◌, ap}
 use mathlib.Core.Logic.{⊎_elim}
@@ -12,10 +17,7 @@ use Rattle.model.specs.Ceilings.{most_gates}
 use Rattle.model.proofs.Lists.{true_or_false}
 use Rattle.frames.proofs.Tests.{never}
 use Rattle.texts.specs.Spelling.{join}
-use Rattle.rows.specs.declared.Read.{Read}
-use Rattle.results.specs.declared.block.Block.{Block}
-use Rattle.results.specs.declared.block.Block.TheVariants.{Lines as LinesTold}
-use Rattle.results.specs.Block.{in_front}
+use Rattle.results.specs.Block.{block_of, in_front}
 use Rattle.results.proofs.Fitting.{fitting_few}
 use Rattle.drawing.specs.Answer.{answer_lines}
 use Rattle.drawing.specs.Demands.{most_line}
@@ -23,16 +25,14 @@ use Rattle.drawing.specs.Prepared.{Lent, PreparedInto, tell_lines_answer, tell_l
 use Rattle.drawing.specs.Headline.{Ample, Answers}
 use Rattle.drawing.proofs.Demands.{finished}
 use Rattle.drawing.proofs.Headline.{headline}
-use Rattle.cluster.specs.declared.Printed.{Printed}
-use Rattle.cluster.specs.declared.Printed.TheVariants.{Lines}
 use Rattle.cluster.specs.Printing.{Prepared, block, Begins, first, next, Unprinted, BlockBytes, Prints, BlockPrinted}
 
 -- a text that was prepared in rows that suffice
-abbrev pub prepared_of : {text : List ℕ} {before : Lent} {p : Read} {l : Lent} → PreparedInto text before p l → Ample before
+abbrev pub prepared_of : {text : List ℕ} {before : Lent} {p : Result Header Refusal} {l : Lent} → PreparedInto text before p l → Ample before
     → Prepared p l
 prepared_of {text} {before} into ample = record { text = text; before = before; ample = ample; into = into }
 
-answers : {p : Read} {l : Lent} (t : Prepared p l) → Answers t.text p l
+answers : {p : Result Header Refusal} {l : Lent} (t : Prepared p l) → Answers t.text p l
 answers {p} {l} t = headline t.text t.before l p t.ample t.into
 
 -- blocks begin among the lines, or behind the last
@@ -46,23 +46,26 @@ pub begins_few : {room : ℕ} {text : List ℕ} {index : ℕ} → Begins room te
 begins_few {text = text} b = omega (arith, begins_among b, (finished text []).few)
 
 -- What `tell_lines` tells is the block of that index.
-module _ {p : Read} {index : ℕ} {l : Lent} {out : List ℕ} {b : Block} {row : List ℕ} {count bytes : ℕ}
-    (told : ToldLines p index l out b row) (is : b ≡ LinesTold count bytes) (u : Unprinted (length out) p l index) where
+module _ {p : Result Header Refusal} {index : ℕ} {l : Lent} {out : List ℕ} {b : Result Block Refusal} {row : List ℕ} {made : Block}
+    (told : ToldLines p index l out b row) (is : b ≡ Ok made) (u : Unprinted (length out) p l index) where
   abbrev run : Prepared p l → List (List ℕ)
   run t = block (length out) t.text index
 
-  told_counts : (t : Prepared p l) → (count ≡ length (run t)) × (bytes ≡ length (join (run t)))
-  told_counts t = let same = sym is ∙ ((answers t).block_room index out b row told u.roomy).0 in (cc, cc)
+  told_counts : (t : Prepared p l) → (made.count ≡ length (run t)) × (made.length ≡ length (join (run t)))
+  told_counts t =
+      let both = sym is ∙ ((answers t).block_room index out b row told u.roomy).0 in
+      let same : made ≡ block_of (length (run t)) (length (join (run t))) = cc in
+      (ap (λ (k : Block). k.count) same, ap (λ (k : Block). k.length) same)
 
   front : row ≡ in_front (join (run u.prepared)) out
   front = ((answers u.prepared).block_room index out b row told u.roomy).1
 
-  pub told_within : bytes ≤ length row
+  pub told_within : made.length ≤ length row
   told_within =
       let bytes = join (run u.prepared) in
       omega (arith, told_counts u.prepared, ap length front, length-append bytes (drop (length bytes) out))
 
-  pub told_bytes : BlockBytes count (take bytes row)
+  pub told_bytes : BlockBytes made.count (take made.length row)
   told_bytes =
       let t = u.prepared in
       record {
@@ -70,14 +73,14 @@ module _ {p : Read} {index : ℕ} {l : Lent} {out : List ℕ} {b : Block} {row :
         text = t.text;
         index = index;
         lines = (told_counts t).0;
-        whole = rw front (take_at _ _ bytes (sym (told_counts t).1));
+        whole = rw front (take_at _ _ made.length (sym (told_counts t).1));
       }
 
-  pub block_printed : {r : Printed} → Prints count r → BlockPrinted (length out) p l index r
+  pub block_printed : {r : Result ℕ WriteFailed} → Prints made.count r → BlockPrinted (length out) p l index r
   block_printed printed t = rw (told_counts t).0 at printed
 
 -- only past the last line a block has no line
-none_left : {room : ℕ} {p : Read} {l : Lent} {index : ℕ} (t : Prepared p l) → most_line ≤ room → Begins room t.text index
+none_left : {room : ℕ} {p : Result Header Refusal} {l : Lent} {index : ℕ} (t : Prepared p l) → most_line ≤ room → Begins room t.text index
     → length (block room t.text index) ≡ 0
     → index ≡ length (answer_lines t.text)
 none_left {room} {p} {l} {index} t roomy b none =
@@ -93,8 +96,8 @@ none_left {room} {p} {l} {index} t roomy b none =
     (true_or_false (ltb index lines))
 
 -- Behind a block that was printed the next one begins; one without a line is behind the last.
-module _ {room lent : ℕ} {p : Read} {l : Lent} {index count : ℕ} (t : Prepared p l) (b : Begins room t.text index) (same : lent ≡ room)
-    (printed : BlockPrinted lent p l index (Lines count)) where
+module _ {room lent : ℕ} {p : Result Header Refusal} {l : Lent} {index count : ℕ} (t : Prepared p l) (b : Begins room t.text index) (same : lent ≡ room)
+    (printed : BlockPrinted lent p l index (Ok count)) where
   counts : count ≡ length (block room t.text index)
   counts = ⊎_elim (λ h. cc) (λ h. never cc) (rw same at (printed t))
 

@@ -1,17 +1,17 @@
 -- What a text answers, printed a block of lines at a time.
-use Rattle.std.specs.Prelude.{ℕ, ◌+◌, ◌≤◌, ◌≡◌, ◌⊎◌, List, length, drop}
+use Rattle.std.specs.Prelude.{ℕ, ◌+◌, ◌≤◌, ◌≡◌, ◌⊎◌, List, length, drop, Result, Ok, Err}
 use Rattle.texts.specs.Spelling.{join}
-use Rattle.rows.specs.declared.Read.{Read}
+use Rattle.frames.specs.declared.Refusal.{Refusal}
+use Rattle.rows.specs.declared.Header.{Header}
 use Rattle.results.specs.Block.{fitting}
 use Rattle.drawing.specs.Answer.{answer_lines}
 use Rattle.drawing.specs.Demands.{most_line}
 use Rattle.drawing.specs.Prepared.{Lent, PreparedInto}
 use Rattle.drawing.specs.Headline.{Ample}
-use Rattle.cluster.specs.declared.Printed.{Printed}
-use Rattle.cluster.specs.declared.Printed.TheVariants.{Lines, Failed}
+use Rattle.cluster.specs.declared.WriteFailed.{WriteFailed}
 
 -- [B9] What was prepared of a text, in rows that suffice for every text.
-pub record Prepared (p : Read) (l : Lent) : Type 0 where
+pub record Prepared (p : Result Header Refusal) (l : Lent) : Type 0 where
   pub text : List ℕ
   pub before : Lent
   pub ample : Ample before
@@ -27,7 +27,7 @@ pub data Begins (room : ℕ) (text : List ℕ) : ℕ → Type 0 where
   next : {index : ℕ} → Begins room text index → Begins room text (index + length (block room text index))
 
 -- The line of an index is the first that is not printed yet, and [B7] a block has room for the longest line.
-pub record Unprinted (room : ℕ) (p : Read) (l : Lent) (index : ℕ) : Type 0 where
+pub record Unprinted (room : ℕ) (p : Result Header Refusal) (l : Lent) (index : ℕ) : Type 0 where
   pub roomy : most_line ≤ room
   pub prepared : Prepared p l
   pub begins : Begins room prepared.text index
@@ -41,13 +41,13 @@ pub record BlockBytes (count : ℕ) (bytes : List ℕ) : Type 0 where
   pub whole : bytes ≡ join (block room text index)
 
 -- So many lines are printed, or a write fails.
-abbrev pub Prints : ℕ → Printed → Type 0
-Prints count r = (r ≡ Lines count) ⊎ (r ≡ Failed)
+abbrev pub Prints : ℕ → Result ℕ WriteFailed → Type 0
+Prints count r = (r ≡ Ok count) ⊎ (r ≡ Err (record {}))
 
 -- the lines of the block that begins at an index
-abbrev pub BlockPrinted : ℕ → Read → Lent → ℕ → Printed → Type 0
+abbrev pub BlockPrinted : ℕ → Result Header Refusal → Lent → ℕ → Result ℕ WriteFailed → Type 0
 BlockPrinted room p l index r = (t : Prepared p l) → Prints (length (block room t.text index)) r
 
 -- every line that the text answers
-abbrev pub AllPrinted : Read → Lent → Printed → Type 0
+abbrev pub AllPrinted : Result Header Refusal → Lent → Result ℕ WriteFailed → Type 0
 AllPrinted p l r = (t : Prepared p l) → Prints (length (answer_lines t.text)) r

@@ -11,11 +11,10 @@ ghost use Rattle.std.specs.Prelude.{◌<◌, ◌≡◌, length};
 ghost use Rattle.io.specs.Counts.{IsPrefixLen};
 ghost use Rattle.texts.specs.Reading.{most_text};
 ghost use Rattle.drawing.specs.Answer.{answer_lines};
-ghost use Rattle.drawing.specs.Prepared.{lent_of};
-ghost use Rattle.cluster.specs.Printing.{Prepared, Unprinted, BlockBytes, Prints, BlockPrinted, AllPrinted};
+ghost use Rattle.drawing.specs.Prepared.{lent_in};
+ghost use Rattle.cluster.specs.Printing.{Prepared as Printable, Unprinted, BlockBytes, Prints, BlockPrinted, AllPrinted};
 
-use results::block::Block;
-use rows::Read;
+use drawing::Prepared;
 use units::GateNumber;
 
 // [B5] One byte more than a text may have, so that a longer one is seen to be longer.
@@ -25,74 +24,64 @@ const TEXT: usize = frames::MOST_TEXT + 1;
 // is looked at once a block.
 const BLOCK: usize = 8_192;
 
-// How many lines were printed; or that a write failed.
+// A write failed.
 #[derive(Clone, Copy)]
-enum Printed {
-    Lines(usize),
-    Failed,
-}
+struct WriteFailed;
 
-// The bytes of a block of so many lines, printed.
-fn show(bytes: &[u8], count: usize) -> Printed
+// The bytes of a block of so many lines, printed; how many.
+fn show(bytes: &[u8], count: usize) -> Result<usize, WriteFailed>
     requires { BlockBytes count bytes.now }
     ensures { Prints count result }
 {
     if io::write_all(1, bytes) {
-        Printed::Lines(count)
+        Ok(count)
     } else {
-        Printed::Failed
+        Err(WriteFailed)
     }
 }
 
 // [R7] The lines from that index on that have room in the last row, printed; how many, 0 only past the last line. That index
 // is the first line's that is not printed yet.
-fn print_block(
-    prepared: Read,
-    index: usize,
-    row: &[u16],
-    labels: &[u32],
-    marks: &[u8],
-    out: &mut [u8],
-) -> Printed
-    requires { Unprinted (length out.old) prepared (lent_of row.now labels.now marks.now) index }
-    ensures { BlockPrinted (length out.old) prepared
-        (lent_of row.now labels.now marks.now) index result }
+fn print_block(prepared: &Prepared, index: usize, out: &mut [u8]) -> Result<usize, WriteFailed>
+    requires { Unprinted (length out.old) prepared.now.answer (lent_in prepared.now) index }
+    ensures { BlockPrinted (length out.old) prepared.now.answer (lent_in prepared.now) index result }
 {
-    let told = drawing::tell_lines(prepared, index, row, labels, marks, out);
-    let Block::Lines { count, length } = told else {
-        return Printed::Failed;
+    let Ok(told) = prepared.tell_lines(index, out) else {
+        return Err(WriteFailed);
     };
-    show(&out[..length], count)
+    show(&out[..told.length], told.count)
 }
 
 // Every line printed, from the first to the last; how many.
-fn print(prepared: Read, row: &[u16], labels: &[u32], marks: &[u8]) -> Printed
-    requires { Prepared prepared (lent_of row.now labels.now marks.now) }
-    ensures { AllPrinted prepared (lent_of row.now labels.now marks.now) result }
+fn print(prepared: &Prepared) -> Result<usize, WriteFailed>
+    requires { Printable prepared.now.answer (lent_in prepared.now) }
+    ensures { AllPrinted prepared.now.answer (lent_in prepared.now) result }
 {
     let mut out = [0; BLOCK];
     let mut index = 0;
     loop {
-        let printed = print_block(prepared, index, row, labels, marks, &mut out);
-        let Printed::Lines(count) = printed else {
-            return Printed::Failed;
-        };
+        let count = print_block(prepared, index, &mut out)?;
         if count == 0 {
-            return Printed::Lines(index);
+            return Ok(index);
         }
         index += count;
     }
 }
 
 // The answer to a text, printed; how many lines. [B9] The rows suffice for every text.
-fn answer(text: &[u8]) -> Printed
+fn answer(text: &[u8]) -> Result<usize, WriteFailed>
     ensures { Prints (length (answer_lines text.now)) result }
 {
     let mut row = [0u16; rows::PLACES * GateNumber::MOST_GATES];
     let mut labels = [0u32; GateNumber::MOST_GATES];
     let mut marks = [0u8; GateNumber::MOST_GATES];
-    let prepared = drawing::prepare(text, &mut row, &mut labels, &mut marks);
-    print(prepared, &row, &labels, &marks)
+    let answer = drawing::prepare(text, &mut row, &mut labels, &mut marks);
+    print(&Prepared {
+        answer,
+        row: &row,
+        labels: &labels,
+        marks: &marks,
+    })
 }
 
 // Standard input, as far as the row has room; how many bytes. [N1] A text that fills the row is too long, whatever is left
@@ -108,5 +97,5 @@ fn read_text(text: &mut [u8]) -> usize
 fn main() {
     let mut text = [0u8; TEXT];
     let length = read_text(&mut text);
-    answer(&text[..length]);
+    let _ = answer(&text[..length]);
 }

@@ -1,4 +1,7 @@
 -- antt computes every worked row, P1 to P24, and blocks of lines.
+use Rattle.std.specs.Prelude.{Result, Ok, Err}
+use Rattle.results.specs.Block.{block_of}
+use Rattle.frames.specs.declared.Refusal.{Refusal}
 use Prim.Native.Nat.{ℕ}
 use mathlib.Core.Path.{◌≡◌, refl}
 use mathlib.Core.List.{List, [], ◌++◌}
@@ -7,8 +10,6 @@ use Rattle.frames.specs.Digits.{spell_line}
 use Rattle.frames.specs.Typed.{typed}
 use Rattle.frames.specs.Refusal.{at_line, no_room}
 use Rattle.texts.specs.Spelling.{join}
-use Rattle.rows.specs.declared.Read.TheVariants as read
-use Rattle.results.specs.declared.block.Block.TheVariants as block
 use Rattle.results.specs.Result.{refusal_bytes}
 use Rattle.results.specs.Block.{fitting, run_answer, lines_answer}
 use Rattle.drawing.specs.Answer.{answer_lines}
@@ -26,19 +27,19 @@ abbrev p1_lines : List (List ℕ)
 p1_lines = answer_lines (typed "01000000030004\n" ++ A)
 
 pub blocks :
-    (lines_answer p1_lines (replicate 40 0) ≡ block.Lines 2 30)
-    × (lines_answer p1_lines (replicate 14 0) ≡ block.Refused no_room)
-    × (lines_answer (drop 8 p1_lines) (replicate 30 0) ≡ block.Lines 2 30)
-    × (lines_answer (drop 8 p1_lines) (replicate 29 0) ≡ block.Lines 1 23)
-    × (lines_answer (drop 10 p1_lines) [] ≡ block.Lines 0 0)
+    (lines_answer p1_lines (replicate 40 0) ≡ Ok (block_of 2 30))
+    × (lines_answer p1_lines (replicate 14 0) ≡ Err no_room)
+    × (lines_answer (drop 8 p1_lines) (replicate 30 0) ≡ Ok (block_of 2 30))
+    × (lines_answer (drop 8 p1_lines) (replicate 29 0) ≡ Ok (block_of 1 23))
+    × (lines_answer (drop 10 p1_lines) [] ≡ Ok (block_of 0 0))
 unfolding lines_answer run_answer fitting answer_lines A typed join
 blocks = (refl, refl, refl, refl, refl)
 
 -- a refusal has its one line, of 13 bytes, in the first block
 pub refusal_blocks :
     (l : Lent)
-    → (tell_lines_answer (read.Refused (at_line 3 1)) 0 l (replicate 13 0) ≡ block.Lines 1 13)
-    × (tell_lines_answer (read.Refused (at_line 3 1)) 0 l (replicate 12 0) ≡ block.Refused no_room)
-    × (tell_lines_answer (read.Refused (at_line 3 1)) 1 l (replicate 13 0) ≡ block.Lines 0 0)
+    → (tell_lines_answer (Err (at_line 3 1)) 0 l (replicate 13 0) ≡ Ok (block_of 1 13))
+    × (tell_lines_answer (Err (at_line 3 1)) 0 l (replicate 12 0) ≡ Err no_room)
+    × (tell_lines_answer (Err (at_line 3 1)) 1 l (replicate 13 0) ≡ Ok (block_of 0 0))
 unfolding tell_lines_answer lines_answer run_answer fitting join spell_line refusal_bytes
 refusal_blocks l = (refl, refl, refl)

@@ -1,4 +1,8 @@
 -- The promise over a whole text holds.
+use Rattle.std.specs.Prelude.{Result, Ok, Err}
+use Rattle.results.specs.Block.{block_of}
+use Rattle.results.specs.declared.block.Block.{Block}
+use Rattle.rows.specs.declared.Header.{Header}
 use Prim.Native.Nat.{ℕ, zero, suc, ◌*◌, ◌≤◌, ◌<◌}
 use mathlib.Core.Path.{◌≡◌, refl, sym, ◌∙◌, ap}
 use mathlib.Core.Bool.{true, false, not}
@@ -20,18 +24,12 @@ use Rattle.frames.proofs.Fault.{given_number, passes, passed_by}
 use Rattle.frames.proofs.Tests.{never}
 use Rattle.texts.proofs.Table.{reading_exactly}
 use Rattle.texts.proofs.AcceptedNetwork.{accepted_well_formed, accepted_within_ceilings}
-use Rattle.rows.specs.declared.Read.{Read}
-use Rattle.rows.specs.declared.Read.TheVariants as read
 use Rattle.rows.specs.Row.{too_short, header_of, fill, places}
 use Rattle.rows.specs.Spelling.{row_answer}
 use Rattle.rows.proofs.RoundTrip.{read_filled_answers}
 use Rattle.frames.specs.Put.{line_at, line_answer, line_row, LineWritten}
-use Rattle.frames.specs.declared.Written.{Written}
-use Rattle.frames.specs.declared.Written.TheVariants.{Line}
 use Rattle.labelling.specs.Promises.{written}
 use Rattle.selection.proofs.Roots.{length_marks, drawn_roots}
-use Rattle.results.specs.declared.block.Block.{Block}
-use Rattle.results.specs.declared.block.Block.TheVariants.{Lines}
 use Rattle.results.specs.Result.{result_lines}
 use Rattle.results.specs.Line.{told_line}
 use Rattle.results.specs.Block.{fitting, in_front, lines_answer, lines_row, LinesWritten, drawn_lines}
@@ -75,16 +73,16 @@ line_short [] most h index = omega arith
 line_short (l ∷ ls) most h zero = h l (Memᴰ.head refl)
 line_short (l ∷ ls) most h (suc index) = line_short ls most (λ k m. h k (Memᴰ.tail m)) index
 
-written_whole : {line out : List ℕ} {r : Written} {row : List ℕ} → LineWritten line out r row → length line ≤ length out
-    → (r ≡ Line (length line)) × (row ≡ line ++ drop (length line) out)
+written_whole : {line out : List ℕ} {r : Result ℕ Refusal} {row : List ℕ} → LineWritten line out r row → length line ≤ length out
+    → (r ≡ Ok (length line)) × (row ≡ line ++ drop (length line) out)
 unfolding line_answer line_row
 written_whole {line} {out} w h = let t = le-ltb (length out) (length line) h in (rw t at w.answer, rw t at w.kept)
 
 -- A first line that has room: the block is not refused, and where a line is left it has one.
-written_run : (ls : List (List ℕ)) (index : ℕ) {out : List ℕ} {r : Block} {row : List ℕ} → LinesWritten (drop index ls) out r row
+written_run : (ls : List (List ℕ)) (index : ℕ) {out : List ℕ} {r : Result Block Refusal} {row : List ℕ} → LinesWritten (drop index ls) out r row
     → length (line_at index ls) ≤ length out
     → let run = fitting (length out) (drop index ls) in
-    (r ≡ Lines (length run) (length (join run))) × (row ≡ in_front (join run) out) × (index < length ls → 0 < length run)
+    (r ≡ Ok (block_of (length run) (length (join run)))) × (row ≡ in_front (join run) out) × (index < length ls → 0 < length run)
 unfolding lines_answer lines_row
 written_run ls index {out} w h =
     let fits : length (line_at 0 (drop index ls)) ≤ length out = omega (arith, ap length (drop_first index ls)) in (
@@ -93,9 +91,9 @@ written_run ls index {out} w h =
       λ more. one_fits (drop index ls) (length out) fits (omega (arith, length-drop index ls)),
     )
 
-refusal_told : (text : List ℕ) {f : Refusal} {p : Read} {index : ℕ} {l : Lent} {out : List ℕ} {r : Written} {row : List ℕ}
+refusal_told : (text : List ℕ) {f : Refusal} {p : Result Header Refusal} {index : ℕ} {l : Lent} {out : List ℕ} {r : Result ℕ Refusal} {row : List ℕ}
     → reading text ≡ refused f
-    → p ≡ read.Refused f
+    → p ≡ Err f
     → Told p index l out r row
     → LineWritten (line_at index (answer_lines text)) out r row
 unfolding tell_answer tell_row
@@ -103,9 +101,9 @@ refusal_told text {f} e q t =
     let lines = refused_lines text f e in
     rw lines (record { answer = rw q at t.answer; kept = rw q at t.kept })
 
-refusal_block : (text : List ℕ) {f : Refusal} {p : Read} {index : ℕ} {l : Lent} {out : List ℕ} {r : Block} {row : List ℕ}
+refusal_block : (text : List ℕ) {f : Refusal} {p : Result Header Refusal} {index : ℕ} {l : Lent} {out : List ℕ} {r : Result Block Refusal} {row : List ℕ}
     → reading text ≡ refused f
-    → p ≡ read.Refused f
+    → p ≡ Err f
     → ToldLines p index l out r row
     → LinesWritten (drop index (answer_lines text)) out r row
 unfolding tell_lines_answer tell_lines_row
@@ -147,17 +145,17 @@ module _ (text : List ℕ) (n : Network) (before : Lent) (e : reading text ≡ n
   marks_room : size n ≤ length marks
   marks_room = omega (arith, length-append (marks_of n (labels_of n)) (drop (size n) before.marks), length_marks n (labels_of n))
 
-  result_told : {index : ℕ} {p : Read} {l : Lent} {out : List ℕ} {r : Written} {row : List ℕ} → p ≡ read.Network (header_of n)
+  result_told : {index : ℕ} {p : Result Header Refusal} {l : Lent} {out : List ℕ} {r : Result ℕ Refusal} {row : List ℕ} → p ≡ Ok (header_of n)
       → l ≡ prepared_rows n before
       → Told p index l out r row
       → LineWritten (line_at index (answer_lines text)) out r row
   unfolding tell_answer tell_row prepared_rows
   result_told {index} q k t =
       rw (← told_lines index)
-      (told_written n (size n) labels marks refl labels_room marks_room
+      (told_written n labels marks labels_room marks_room
       (record { answer = rw (q, k, row_answered) at t.answer; kept = rw (q, k, row_answered) at t.kept }))
 
-  result_block : {index : ℕ} {p : Read} {l : Lent} {out : List ℕ} {r : Block} {row : List ℕ} → p ≡ read.Network (header_of n)
+  result_block : {index : ℕ} {p : Result Header Refusal} {l : Lent} {out : List ℕ} {r : Result Block Refusal} {row : List ℕ} → p ≡ Ok (header_of n)
       → l ≡ prepared_rows n before
       → ToldLines p index l out r row
       → LinesWritten (drop index (answer_lines text)) out r row
@@ -171,11 +169,11 @@ module _ (text : List ℕ) (n : Network) (before : Lent) (e : reading text ≡ n
 pub headline : Headline
 headline text before after p a into = go (reading text) refl
   where
-    all : ((index : ℕ) (out : List ℕ) (r : Written) (row : List ℕ) → Told p index after out r row
+    all : ((index : ℕ) (out : List ℕ) (r : Result ℕ Refusal) (row : List ℕ) → Told p index after out r row
         → LineWritten (line_at index (answer_lines text)) out r row)
-        → ((index : ℕ) (out : List ℕ) (r : Block) (row : List ℕ) → ToldLines p index after out r row
+        → ((index : ℕ) (out : List ℕ) (r : Result Block Refusal) (row : List ℕ) → ToldLines p index after out r row
         → LinesWritten (drop index (answer_lines text)) out r row)
-        → ((f : Refusal) → p ≡ read.Refused f → f.number ≡ 10 → ⊥)
+        → ((f : Refusal) → p ≡ Err f → f.number ≡ 10 → ⊥)
         → Answers text p after
     all line lines never_10 =
         let short = line_short (answer_lines text) most_line (finished text before.row).short in
@@ -189,14 +187,14 @@ headline text before after p a into = go (reading text) refl
 
     go : (w : Reading) → reading text ≡ w → Answers text p after
     go (refused f) q =
-        let told : p ≡ read.Refused f = into.answer ∙ unfold prepared_answer in rw q in
+        let told : p ≡ Err f = into.answer ∙ unfold prepared_answer in rw q in
         all (λ index out r row t. refusal_told text q told t) (λ index out r row t. refusal_block text q told t)
         (λ g is ten.
         let same : f ≡ g = cc in
         never_by_10 (((reading_exactly text).refusal f).0 q) (ap (λ (k : Refusal). k.number) same ∙ ten))
     go (network n) q =
         let none = none_short (size n) before a (few text n before q a) in
-        let told : p ≡ read.Network (header_of n) = into.answer ∙ unfold prepared_answer in rw (q, none) in
+        let told : p ≡ Ok (header_of n) = into.answer ∙ unfold prepared_answer in rw (q, none) in
         let left : after ≡ prepared_rows n before = into.lent ∙ unfold prepared_lent in rw (q, none) in
         all (λ index out r row t. result_told text n before q a told left t) (λ index out r row t. result_block text n before q a told left t)
         (λ f is ten. never cc)

@@ -1,4 +1,8 @@
 -- A whole text prepared: reading, labelling and selecting, one after the other, leave the rows that specs/Prepared.antt says.
+use Rattle.std.specs.Prelude.{Result, Ok, Err}
+use Rattle.selection.specs.declared.Drawn.{Drawn}
+use Rattle.results.specs.Block.{block_of}
+use Rattle.results.specs.declared.block.Block.{Block}
 use Prim.Native.Nat.{ℕ, ◌≤◌, ◌<◌}
 use mathlib.Core.Path.{◌≡◌, refl, sym, ◌∙◌, ap}
 use mathlib.Core.Bool.{Bool, true, false}
@@ -15,23 +19,16 @@ use Rattle.frames.specs.declared.Refusal.{Refusal}
 use Rattle.frames.specs.Refusal.{no_room}
 use Rattle.frames.specs.Digits.{spell_line}
 use Rattle.frames.specs.Put.{line_at, LineWritten}
-use Rattle.frames.specs.declared.Written.{Written}
-use Rattle.frames.specs.declared.Written.TheVariants.{Line}
 use Rattle.frames.proofs.Tests.{never, neither_true}
 use Rattle.frames.proofs.WrittenLines.{line_none}
 use Rattle.texts.specs.Reading.{Reading, refused, network, reading}
 use Rattle.rows.specs.declared.Header.{Header}
-use Rattle.rows.specs.declared.Read.{Read}
-use Rattle.rows.specs.declared.Read.TheVariants as read
 use Rattle.rows.specs.Row.{too_short, header_of, fill}
 use Rattle.rows.specs.Spelling.{row_answer}
 use Rattle.rows.specs.Read.{shown, in_room, answer, filled}
 use Rattle.rows.proofs.RoundTrip.{read_filled_answers}
 use Rattle.labelling.specs.Promises.{written, label_row, LabelledInto, either_short}
-use Rattle.labelling.specs.declared.Labelled.{Labelled}
-use Rattle.selection.specs.declared.Drawing.{Drawing}
 use Rattle.selection.specs.Selection.{drawn_row, DrawingAnswered}
-use Rattle.results.specs.declared.block.Block.{Block}
 use Rattle.results.specs.Result.{refusal_bytes}
 use Rattle.results.specs.Line.{LineAnswered}
 use Rattle.results.specs.Block.{LinesWritten, BlockAnswered, refusal_lines}
@@ -87,12 +84,12 @@ module _ (text : List ℕ) (h : Header) (l : Lent) (r : Readable text h l) where
         ∙ ap (λ (k : Header). row_answer k (fill n.gates l.row)) (sym r.header_is)
         ∙ read_filled_answers text n l.row r.reads room.row
 
-    labels_row : {a : Labelled} {labels : List ℕ} → LabelledInto h row l.labels a labels
+    labels_row : {a : Result (Unit {0}) Refusal} {labels : List ℕ} → LabelledInto h row l.labels a labels
         → labels ≡ written (labels_of n) l.labels
     unfolding label_row
     labels_row a = let wide = le-ltb (length l.labels) (size n) room.labels in rw (told, wide) at a.kept
 
-    marks_row : {labels : List ℕ} {d : Drawing} {marks : List ℕ} → labels ≡ written (labels_of n) l.labels
+    marks_row : {labels : List ℕ} {d : Result Drawn Refusal} {marks : List ℕ} → labels ≡ written (labels_of n) l.labels
         → DrawingAnswered (row_answer h row) labels l.marks d marks
         → marks ≡ marks_of n (labels_of n) ++ drop (size n) l.marks
     unfolding drawn_row
@@ -105,7 +102,7 @@ module _ (text : List ℕ) (h : Header) (l : Lent) (r : Readable text h l) where
         ∙ ap (λ (row : List ℕ). row ++ drop (size n) l.marks)
         (ap (marks_of n) e ∙ marks_same n (written (labels_of n) l.labels) (labels_of n) (labels_same n l.labels))
 
-    pub prepared_filled : {a : Labelled} {labels : List ℕ} {d : Drawing} {marks : List ℕ} → LabelledInto h row l.labels a labels
+    pub prepared_filled : {a : Result (Unit {0}) Refusal} {labels : List ℕ} {d : Result Drawn Refusal} {marks : List ℕ} → LabelledInto h row l.labels a labels
         → DrawingAnswered (row_answer h row) labels l.marks d marks
         → lent_of row labels marks ≡ prepared_lent (reading text) l
     unfolding prepared_lent prepared_rows
@@ -115,21 +112,21 @@ module _ (text : List ℕ) (h : Header) (l : Lent) (r : Readable text h l) where
         rw (r.reads, none_short, read_row, b, c)
 
 -- What a text answers, told by what was seen of it.
-module _ (text : List ℕ) (l : Lent) {seen : Read} (look : seen ≡ shown (reading text)) where
-  pub prepared_refused : {f : Refusal} → seen ≡ read.Refused f → PreparedInto text l seen l
+module _ (text : List ℕ) (l : Lent) {seen : Result Header Refusal} (look : seen ≡ shown (reading text)) where
+  pub prepared_refused : {f : Refusal} → seen ≡ Err f → PreparedInto text l (Err f) l
   unfolding shown prepared_answer prepared_lent
-  prepared_refused is = go (reading text) refl
+  prepared_refused {f} is = go (reading text) refl
     where
-      go : (r : Reading) → reading text ≡ r → PreparedInto text l seen l
-      go (refused f) q = record { answer = rw q (look ∙ ap shown q); lent = rw q }
+      go : (r : Reading) → reading text ≡ r → PreparedInto text l (Err f) l
+      go (refused g) q = record { answer = rw q (sym is ∙ look ∙ ap shown q); lent = rw q }
       go (network m) q = let same = sym is ∙ look ∙ ap shown q in never cc
 
-  module _ {h : Header} (is : seen ≡ read.Network h) {short : Bool} (test : short ≡ any_short h.gates l) where
-    pub prepared_short : {f : Refusal} → short ≡ true → f ≡ no_room → PreparedInto text l (read.Refused f) l
+  module _ {h : Header} (is : seen ≡ Ok h) {short : Bool} (test : short ≡ any_short h.gates l) where
+    pub prepared_short : {f : Refusal} → short ≡ true → f ≡ no_room → PreparedInto text l (Err f) l
     unfolding shown prepared_answer prepared_lent
     prepared_short {f} t ten = go (reading text) refl
       where
-        go : (r : Reading) → reading text ≡ r → PreparedInto text l (read.Refused f) l
+        go : (r : Reading) → reading text ≡ r → PreparedInto text l (Err f) l
         go (refused g) q = let same = sym is ∙ look ∙ ap shown q in never cc
         go (network m) q =
             let same = sym is ∙ look ∙ ap shown q in
@@ -149,7 +146,7 @@ module _ (text : List ℕ) (l : Lent) {seen : Read} (look : seen ≡ shown (read
             record { whole = m; reads = q; header_is = cc; roomy = sym test ∙ t }
 
     pub prepared_made : {after : Lent} → short ≡ false → after ≡ prepared_lent (reading text) l
-        → PreparedInto text l (read.Network h) after
+        → PreparedInto text l (Ok h) after
     unfolding prepared_answer
     prepared_made t e =
         let r = readable t in
@@ -159,13 +156,13 @@ module _ (text : List ℕ) (l : Lent) {seen : Read} (look : seen ≡ shown (read
 
 -- a line told
 
-module _ {p : Read} {index : ℕ} {l : Lent} {out : List ℕ} {r : Written} {after : List ℕ} where
-  tell_refused : {f : Refusal} → p ≡ read.Refused f → LineWritten (line_at index (refusal_lines f)) out r after
+module _ {p : Result Header Refusal} {index : ℕ} {l : Lent} {out : List ℕ} {r : Result ℕ Refusal} {after : List ℕ} where
+  tell_refused : {f : Refusal} → p ≡ Err f → LineWritten (line_at index (refusal_lines f)) out r after
       → Told p index l out r after
   unfolding tell_answer tell_row
   tell_refused e w = record { answer = rw e w.answer; kept = rw e w.kept }
 
-  pub tell_first : {f : Refusal} → p ≡ read.Refused f → index ≤ 0 → LineWritten (spell_line (refusal_bytes f)) out r after
+  pub tell_first : {f : Refusal} → p ≡ Err f → index ≤ 0 → LineWritten (spell_line (refusal_bytes f)) out r after
       → Told p index l out r after
   unfolding line_at
   tell_first {f} e h w = tell_refused e (rw first w)
@@ -173,14 +170,14 @@ module _ {p : Read} {index : ℕ} {l : Lent} {out : List ℕ} {r : Written} {aft
       first : line_at index (refusal_lines f) ≡ spell_line (refusal_bytes f)
       first = let zero : index ≡ 0 = omega arith in rw zero
 
-  pub tell_result : {h : Header} → p ≡ read.Network h
+  pub tell_result : {h : Header} → p ≡ Ok h
       → LineAnswered index (row_answer h l.row) l.labels l.marks out r after
       → Told p index l out r after
   unfolding tell_answer tell_row
   tell_result e a = record { answer = rw e a.answer; kept = rw e a.kept }
 
-pub tell_past : {p : Read} {f : Refusal} {index : ℕ} {l : Lent} (out : List ℕ) → p ≡ read.Refused f → 0 < index
-    → Told p index l out (Line 0) out
+pub tell_past : {p : Result Header Refusal} {f : Refusal} {index : ℕ} {l : Lent} (out : List ℕ) → p ≡ Err f → 0 < index
+    → Told p index l out (Ok 0) out
 unfolding line_at
 tell_past {f = f} {index} out e h = tell_refused e (rw past (line_none out))
   where
@@ -189,13 +186,13 @@ tell_past {f = f} {index} out e h = tell_refused e (rw past (line_none out))
 
 -- a block told
 
-module _ {p : Read} {index : ℕ} {l : Lent} {out : List ℕ} {b : Block} {after : List ℕ} where
-  pub lines_of_refusal : {f : Refusal} → p ≡ read.Refused f → LinesWritten (drop index (refusal_lines f)) out b after
+module _ {p : Result Header Refusal} {index : ℕ} {l : Lent} {out : List ℕ} {b : Result Block Refusal} {after : List ℕ} where
+  pub lines_of_refusal : {f : Refusal} → p ≡ Err f → LinesWritten (drop index (refusal_lines f)) out b after
       → ToldLines p index l out b after
   unfolding tell_lines_answer tell_lines_row
   lines_of_refusal e w = record { answer = rw e w.answer; kept = rw e w.kept }
 
-  pub lines_of_result : {h : Header} → p ≡ read.Network h
+  pub lines_of_result : {h : Header} → p ≡ Ok h
       → BlockAnswered index (row_answer h l.row) l.labels l.marks out b after
       → ToldLines p index l out b after
   unfolding tell_lines_answer tell_lines_row

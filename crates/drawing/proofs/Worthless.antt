@@ -1,4 +1,8 @@
 -- The four worthless builds fall, by network A: antt computes what the promises say of it.
+use Rattle.std.specs.Prelude.{Result, Ok, Err}
+use Rattle.results.specs.Block.{block_of}
+use Rattle.frames.specs.declared.Refusal.{Refusal}
+use Rattle.rows.specs.declared.Header.{Header}
 use Prim.Native.Nat.{ℕ}
 use mathlib.Core.Path.{◌≡◌, refl, sym, ◌∙◌, ap}
 use mathlib.Core.Logic.{inl, ⊎_elim}
@@ -11,15 +15,11 @@ use Rattle.model.specs.Drawing.{marks}
 use Rattle.model.proofs.Examples.{A}
 use Rattle.frames.specs.Refusal.{no_room}
 use Rattle.frames.specs.Put.{line_at, line_row}
-use Rattle.frames.specs.declared.Written.TheVariants as written
 use Rattle.frames.proofs.Tests.{never}
 use Rattle.texts.specs.Reading.{Reading, refused, network, reading}
 use Rattle.texts.specs.Spelling.{spell_network, join}
-use Rattle.rows.specs.declared.Read.{Read}
-use Rattle.rows.specs.declared.Read.TheVariants as read
 use Rattle.rows.specs.Row.{too_short, header_of, fill}
 use Rattle.rows.specs.Spelling.{row_answer}
-use Rattle.results.specs.declared.block.Block.TheVariants as block
 use Rattle.results.specs.Result.{result_lines}
 use Rattle.results.specs.Line.{told_line, told_row}
 use Rattle.results.specs.Block.{fitting, lines_row, drawn_lines, block_row}
@@ -28,15 +28,15 @@ use Rattle.drawing.specs.Worthless.{Build, Keeps, Accepted, RefusesAll, WritesAl
 
 -- what a build that keeps the promises does with an accepted text
 module _ (b : Build) (k : Keeps b) {text : List ℕ} {l : Lent} {n : Network} (a : Accepted text l n) where
-  answered : b.prepared text l ≡ read.Network (header_of n)
+  answered : b.prepared text l ≡ Ok (header_of n)
   answered = (k.prepare text l).answer ∙ unfold prepared_answer in rw (a.reads, a.roomy)
 
   left : b.rows text l ≡ prepared_rows n l
   left = (k.prepare text l).lent ∙ unfold prepared_lent in rw (a.reads, a.roomy)
 
   -- the same, of whatever writes what was prepared into a row
-  wrote : (writes : Read → ℕ → Lent → List ℕ → List ℕ) (index : ℕ) (out : List ℕ)
-      → writes (b.prepared text l) index (b.rows text l) out ≡ writes (read.Network (header_of n)) index (prepared_rows n l) out
+  wrote : (writes : Result Header Refusal → ℕ → Lent → List ℕ → List ℕ) (index : ℕ) (out : List ℕ)
+      → writes (b.prepared text l) index (b.rows text l) out ≡ writes (Ok (header_of n)) index (prepared_rows n l) out
   wrote writes index out = rw (answered, left)
 
 -- network A's text with M left open, and rows with just the room for its five gates
@@ -69,8 +69,8 @@ unfolding zeros
 first_written e = omega (arith, ap (λ (row : List ℕ). get_or row 1 0) (sym labels_3 ∙ e))
 
 -- what has to be written of A at index 0, into a row with just the room for the first line
-first : (Read → ℕ → Lent → List ℕ → List ℕ) → ℕ → List ℕ
-first writes m = writes (read.Network (header_of (A m 4))) 0 (prepared_rows (A m 4) zeros) (replicate 15 0)
+first : (Result Header Refusal → ℕ → Lent → List ℕ → List ℕ) → ℕ → List ℕ
+first writes m = writes (Ok (header_of (A m 4))) 0 (prepared_rows (A m 4) zeros) (replicate 15 0)
 
 -- the digit that differs is the last of the output delay: A and F
 
@@ -85,13 +85,13 @@ blocks_differ e = omega (arith, ap (λ (row : List ℕ). get_or row 9 0) e)
 module _ (b : Build) (k : Keeps b) where
   line_kept : (m : ℕ) → first b.line m ≡ first tell_row m
   unfolding first
-  line_kept m = (k.tell (read.Network (header_of (A m 4))) 0 (prepared_rows (A m 4) zeros) (replicate 15 0)).kept
+  line_kept m = (k.tell (Ok (header_of (A m 4))) 0 (prepared_rows (A m 4) zeros) (replicate 15 0)).kept
 
   lines_kept : (m : ℕ) → first b.lines m ≡ first tell_lines_row m
   unfolding first
-  lines_kept m = (k.tell_lines (read.Network (header_of (A m 4))) 0 (prepared_rows (A m 4) zeros) (replicate 15 0)).kept
+  lines_kept m = (k.tell_lines (Ok (header_of (A m 4))) 0 (prepared_rows (A m 4) zeros) (replicate 15 0)).kept
 
-  alike : (writes : Read → ℕ → Lent → List ℕ → List ℕ) → WritesAlike b writes → first writes 3 ≡ first writes 1
+  alike : (writes : Result Header Refusal → ℕ → Lent → List ℕ → List ℕ) → WritesAlike b writes → first writes 3 ≡ first writes 1
   unfolding first
   alike writes same =
       sym (wrote b k accepted_3 writes 0 (replicate 15 0))
@@ -142,11 +142,11 @@ first_labelled (network n) l = lent_of l.row (set l.labels 0 (label n 0)) l.mark
 unfoldable pub idle : (Reading → Lent → Lent) → Build
 idle leaves =
     record {
-      prepared = λ text l. read.Refused no_room;
+      prepared = λ text l. Err no_room;
       rows = λ text l. leaves (reading text) l;
-      told = λ p index l out. written.Line 0;
+      told = λ p index l out. Ok 0;
       line = λ p index l out. out;
-      told_lines = λ p index l out. block.Lines 0 0;
+      told_lines = λ p index l out. Ok (block_of 0 0);
       lines = λ p index l out. out;
     }
 

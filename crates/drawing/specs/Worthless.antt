@@ -1,32 +1,30 @@
 -- Four worthless builds: none of them keeps what `prepare`, `tell` and `tell_lines` promise.
-use Rattle.std.specs.Prelude.{ℕ, ◌≡◌, ◌⊎◌, false, List, set}
+use Rattle.std.specs.Prelude.{ℕ, ◌≡◌, ◌⊎◌, false, List, set, Result, Ok, Err}
+use Rattle.results.specs.declared.block.Block.{Block}
+use Rattle.rows.specs.declared.Header.{Header}
 use Rattle.model.specs.Network.{Network, size}
 use Rattle.model.specs.Label.{label}
 use Rattle.frames.specs.declared.Refusal.{Refusal}
-use Rattle.frames.specs.declared.Written.{Written}
 use Rattle.texts.specs.Reading.{network, reading}
-use Rattle.rows.specs.declared.Read.{Read}
-use Rattle.rows.specs.declared.Read.TheVariants.{Refused}
-use Rattle.results.specs.declared.block.Block.{Block}
 use Rattle.drawing.specs.Prepared.{Lent, any_short, PreparedInto, Told, ToldLines}
 
 -- A build, by what it does. With a text and the rows lent for it: what preparing answers, and how it leaves these rows. With
 -- what was prepared, an index, the rows and a row to write into: what telling a line or a block answers, and how it
 -- leaves that last row.
 pub record Build : Type 0 where
-  pub prepared : List ℕ → Lent → Read
+  pub prepared : List ℕ → Lent → Result Header Refusal
   pub rows : List ℕ → Lent → Lent
-  pub told : Read → ℕ → Lent → List ℕ → Written
-  pub line : Read → ℕ → Lent → List ℕ → List ℕ
-  pub told_lines : Read → ℕ → Lent → List ℕ → Block
-  pub lines : Read → ℕ → Lent → List ℕ → List ℕ
+  pub told : Result Header Refusal → ℕ → Lent → List ℕ → Result ℕ Refusal
+  pub line : Result Header Refusal → ℕ → Lent → List ℕ → List ℕ
+  pub told_lines : Result Header Refusal → ℕ → Lent → List ℕ → Result Block Refusal
+  pub lines : Result Header Refusal → ℕ → Lent → List ℕ → List ℕ
 
 -- It keeps the promises, whatever it is given: these are the contracts of the three functions.
 pub record Keeps (b : Build) : Type 0 where
   pub prepare : (text : List ℕ) (before : Lent) → PreparedInto text before (b.prepared text before) (b.rows text before)
-  pub tell : (p : Read) (index : ℕ) (l : Lent) (out : List ℕ) → Told p index l out (b.told p index l out) (b.line p index l out)
+  pub tell : (p : Result Header Refusal) (index : ℕ) (l : Lent) (out : List ℕ) → Told p index l out (b.told p index l out) (b.line p index l out)
   pub tell_lines :
-      (p : Read) (index : ℕ) (l : Lent) (out : List ℕ) → ToldLines p index l out (b.told_lines p index l out) (b.lines p index l out)
+      (p : Result Header Refusal) (index : ℕ) (l : Lent) (out : List ℕ) → ToldLines p index l out (b.told_lines p index l out) (b.lines p index l out)
 
 -- A text that spells a network, and rows with room for it. A build is worthless for what it does with these; whatever it does
 -- with other texts and with shorter rows, it falls.
@@ -36,10 +34,10 @@ pub record Accepted (text : List ℕ) (l : Lent) (n : Network) : Type 0 where
 
 -- It refuses every text, each by any number, line and column.
 abbrev pub RefusesAll : Build → Type 0
-RefusesAll b = (text : List ℕ) (l : Lent) (n : Network) → Accepted text l n → (f : Refusal) × (b.prepared text l ≡ Refused f)
+RefusesAll b = (text : List ℕ) (l : Lent) (n : Network) → Accepted text l n → (f : Refusal) × (b.prepared text l ≡ Err f)
 
 -- What it writes of a text, at an index and into a row, it writes of every other.
-abbrev pub WritesAlike : Build → (Read → ℕ → Lent → List ℕ → List ℕ) → Type 0
+abbrev pub WritesAlike : Build → (Result Header Refusal → ℕ → Lent → List ℕ → List ℕ) → Type 0
 WritesAlike b writes =
     (text other : List ℕ) (l : Lent) (n m : Network) → Accepted text l n → Accepted other l m
     → (index : ℕ) (out : List ℕ)

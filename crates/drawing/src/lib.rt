@@ -5,12 +5,12 @@
 
 ghost use Rattle.std.specs.Prelude.{◌≡◌};
 ghost use Rattle.texts.specs.Reading.{reading};
-ghost use Rattle.drawing.specs.Prepared.{lent_of, any_short, prepared_lent, PreparedInto, Told, ToldLines};
+ghost use Rattle.drawing.specs.Prepared.{lent_of, lent_in, any_short, prepared_lent, PreparedInto, Told, ToldLines};
 ghost use Rattle.drawing.specs.steps.Preparing.{Readable};
 
-use frames::{Refusal, Written};
+use frames::Refusal;
 use results::block::Block;
-use rows::{Header, Read};
+use rows::Header;
 
 // Whether a row is shorter than so many gates need.
 fn too_short(gates: usize, row: &[u16], labels: &[u32], marks: &[u8]) -> bool
@@ -25,65 +25,65 @@ fn fill(text: &[u8], header: Header, row: &mut [u16], labels: &mut [u32], marks:
     ensures { lent_of row.new labels.new marks.new
         ≡ prepared_lent (reading text.now) (lent_of row.old labels.old marks.old) }
 {
-    reading::read(text, row);
-    labelling::label(header, row, labels);
-    selection::draw(header, row, labels, marks);
+    // None refuses: the text is a network's, and every row has room for it.
+    let _ = reading::read(text, row);
+    let _ = labelling::label(header, row, labels);
+    let _ = selection::draw(header, row, labels, marks);
 }
 
 // Reads a text into its row, labels its network and selects its clusters: the header of the network, which stands in the row
 // with its labels and the marks of its roots beside it, or a refusal, which leaves every row as it was.
-pub fn prepare(text: &[u8], row: &mut [u16], labels: &mut [u32], marks: &mut [u8]) -> Read
+pub fn prepare(
+    text: &[u8],
+    row: &mut [u16],
+    labels: &mut [u32],
+    marks: &mut [u8],
+) -> Result<Header, Refusal>
     ensures { PreparedInto text.now
         (lent_of row.old labels.old marks.old)
         result
         (lent_of row.new labels.new marks.new) }
 {
-    let seen = reading::look(text);
-    let Read::Network(header) = seen else {
-        return seen;
-    };
+    let header = reading::look(text)?;
     if too_short(header.gates, row, labels, marks) {
-        return Read::Refused(Refusal::no_room());
+        return Err(Refusal::no_room());
     }
     fill(text, header, row, labels, marks);
-    seen
+    Ok(header)
 }
 
-// The line of that index, counted from 0, of what a text came to: of its result, or the one line of its refusal; past the
-// last line nothing. A row too short for the line answers 10 and is left as it was.
-pub fn tell(
-    prepared: Read,
-    index: usize,
-    row: &[u16],
-    labels: &[u32],
-    marks: &[u8],
-    out: &mut [u8],
-) -> Written
-    ensures { Told prepared index (lent_of row.now labels.now marks.now) out.old result out.new }
-{
-    let Read::Network(header) = prepared else {
-        if index > 0 {
-            return Written::Line(0);
+// What a text came to: the answer, and the rows that were lent for it.
+#[derive(Clone, Copy)]
+pub struct Prepared<'a> {
+    pub answer: Result<Header, Refusal>,
+    pub row: &'a [u16],
+    pub labels: &'a [u32],
+    pub marks: &'a [u8],
+}
+
+impl Prepared<'_> {
+    // The line of that index, counted from 0, of what a text came to: of its result, or the one line of its refusal; past the
+    // last line nothing. A row too short for the line answers 10 and is left as it was.
+    pub fn tell(&self, index: usize, out: &mut [u8]) -> Result<usize, Refusal>
+        ensures { Told self.now.answer index (lent_in self.now) out.old result out.new }
+    {
+        match self.answer {
+            Ok(header) => results::line::line(index, header, self.row, self.labels, self.marks, out),
+            Err(refusal) if index == 0 => results::line::refusal_line(refusal, out),
+            Err(_) => Ok(0),
         }
-        return results::line::refusal_line(prepared.refusal(), out);
-    };
-    results::line::line(index, header, row, labels, marks, out)
-}
+    }
 
-// As many whole lines of what a text came to as the row has room for, from the line of that index on; past the last line
-// none. A row too short for the first of them answers 10 and is left as it was.
-pub fn tell_lines(
-    prepared: Read,
-    index: usize,
-    row: &[u16],
-    labels: &[u32],
-    marks: &[u8],
-    out: &mut [u8],
-) -> Block
-    ensures { ToldLines prepared index (lent_of row.now labels.now marks.now) out.old result out.new }
-{
-    let Read::Network(header) = prepared else {
-        return results::block::refusal_lines(index, prepared.refusal(), out);
-    };
-    results::block::lines(index, header, row, labels, marks, out)
+    // As many whole lines of what a text came to as the row has room for, from the line of that index on; past the last line
+    // none. A row too short for the first of them answers 10 and is left as it was.
+    pub fn tell_lines(&self, index: usize, out: &mut [u8]) -> Result<Block, Refusal>
+        ensures { ToldLines self.now.answer index (lent_in self.now) out.old result out.new }
+    {
+        match self.answer {
+            Ok(header) => {
+                results::block::lines(index, header, self.row, self.labels, self.marks, out)
+            }
+            Err(refusal) => results::block::refusal_lines(index, refusal, out),
+        }
+    }
 }

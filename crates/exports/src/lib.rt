@@ -10,10 +10,10 @@
 #![tactic(auto)]
 
 ghost use Rattle.std.specs.Prelude.{◌≡◌};
-ghost use Rattle.exports.specs.Exported.{header_from, refused, done, LabelledOut, LineOut};
+ghost use Rattle.exports.specs.Exported.{header_from, line_told, LabelledOut, LineOut};
 
-use frames::{Refusal, Written};
-use labelling::Labelled;
+use drawing::Prepared;
+use frames::Refusal;
 use rows::Header;
 use units::{Cells, GateNumber, Ticks};
 
@@ -28,25 +28,24 @@ pub struct Answer {
     pub length: usize,
 }
 
-fn refused(refusal: Refusal) -> Answer
-    ensures { result ≡ refused refusal }
-{
-    Answer {
-        number: refusal.number,
-        line: refusal.line,
-        column: refusal.column,
-        length: 0,
-    }
-}
+impl From<Result<usize, Refusal>> for Answer {
+    ghost from_gives = { λ r answer. answer ≡ line_told r };
 
-fn done(length: usize) -> Answer
-    ensures { result ≡ done length }
-{
-    Answer {
-        number: 0,
-        line: 0,
-        column: 0,
-        length,
+    fn from(told: Result<usize, Refusal>) -> Answer {
+        match told {
+            Ok(length) => Answer {
+                number: 0,
+                line: 0,
+                column: 0,
+                length,
+            },
+            Err(refusal) => Answer {
+                number: refusal.number,
+                line: refusal.line,
+                column: refusal.column,
+                length: 0,
+            },
+        }
     }
 }
 
@@ -63,15 +62,11 @@ pub extern "C" fn lykophene_label(
     ensures { LabelledOut (header_from capacity hop gates) row.now labels.old result labels.new }
 {
     let header = Header {
-        capacity: Cells(capacity as u64),
-        hop: Ticks(hop as u64),
+        capacity: Cells(u64::from(capacity)),
+        hop: Ticks(u64::from(hop)),
         gates,
     };
-    let answer = labelling::label(header, row, labels);
-    match answer {
-        Labelled::Done => done(0),
-        Labelled::Refused(refusal) => refused(refusal),
-    }
+    Answer::from(labelling::label(header, row, labels).and(Ok(0)))
 }
 
 // [R6] The line of that index, counted from 0, of what a text answers, in front of the lent row, and its length; past the last
@@ -83,10 +78,12 @@ pub extern "C" fn lykophene_line(text: &[u8], index: usize, out: &mut [u8]) -> A
     let mut row = [0u16; rows::PLACES * GateNumber::MOST_GATES];
     let mut labels = [0u32; GateNumber::MOST_GATES];
     let mut marks = [0u8; GateNumber::MOST_GATES];
-    let prepared = drawing::prepare(text, &mut row, &mut labels, &mut marks);
-    let written = drawing::tell(prepared, index, &row, &labels, &marks, out);
-    match written {
-        Written::Line(length) => done(length),
-        Written::Refused(refusal) => refused(refusal),
-    }
+    let answer = drawing::prepare(text, &mut row, &mut labels, &mut marks);
+    let prepared = Prepared {
+        answer,
+        row: &row,
+        labels: &labels,
+        marks: &marks,
+    };
+    Answer::from(prepared.tell(index, out))
 }

@@ -1,4 +1,8 @@
 -- Laws of specs/Block.antt: what is answered in each case.
+use Rattle.std.specs.Prelude.{Result, Ok, Err}
+use Rattle.std.specs.Result.{result_unwrap_or}
+use Rattle.results.specs.Block.{block_of}
+use Rattle.results.specs.declared.block.Block.{Block}
 use Prim.Native.Nat.{ℕ, zero, suc, ◌+◌, ◌*◌, ◌-◌, ◌≤◌, ◌<◌}
 use mathlib.Core.Path.{◌≡◌, refl, sym, ◌∙◌, ap}
 use mathlib.Core.Logic.{⊎_elim}
@@ -16,36 +20,33 @@ use Rattle.frames.specs.Refusal.{no_room}
 use Rattle.frames.specs.Digits.{spell_line}
 use Rattle.frames.proofs.Tests.{never, neither_true}
 use Rattle.frames.specs.Put.{line_at, line_answer, line_row, LineWritten}
-use Rattle.frames.specs.declared.Written.{Written}
-use Rattle.frames.specs.declared.Written.TheVariants as written
 use Rattle.texts.specs.Reading.{Reading, refused, network}
 use Rattle.texts.specs.Spelling.{join}
 use Rattle.labelling.specs.Promises.{either_short}
 use Rattle.labelling.proofs.Room.{room}
 use Rattle.selection.specs.Selection.{roots}
 use Rattle.selection.proofs.Roots.{roots_few}
-use Rattle.results.specs.declared.block.Block.{Block}
-use Rattle.results.specs.declared.block.Block.TheVariants as block
 use Rattle.results.specs.Result.{result_lines, refusal_bytes}
-use Rattle.results.specs.Line.{told_line, told_answer, told_row, LineAnswered}
+use Rattle.results.specs.Line.{told_line}
 use Rattle.results.specs.Block.{fitting, run_answer, in_front, lines_answer, lines_row, LinesWritten, drawn_lines, block_answer, block_row, BlockAnswered, refusal_lines}
 use Rattle.results.specs.steps.Line.{later_lines}
 use Rattle.results.specs.steps.Block.{if_fits, Added, Begun, Ran}
+use Rattle.results.specs.steps.Marked.{refusing}
 use Rattle.results.proofs.Lengths.{line_length, result_count}
 use Rattle.results.proofs.LineAt.{first_at, label_at, later_at, cluster_at, end_at}
 use Rattle.results.proofs.Fitting.{Full, length_front, drop_first}
 
 -- a line that was written, or had no room
 
-module _ (line out : List ℕ) {r : Written} {row : List ℕ} (w : LineWritten line out r row) where
-  has_room : {bytes : ℕ} → r ≡ written.Line bytes → (length line ≤ length out) × (bytes ≡ length line) × (row ≡ in_front line out)
+module _ (line out : List ℕ) {r : Result ℕ Refusal} {row : List ℕ} (w : LineWritten line out r row) where
+  has_room : {bytes : ℕ} → r ≡ Ok bytes → (length line ≤ length out) × (bytes ≡ length line) × (row ≡ in_front line out)
   unfolding line_answer line_row
   has_room e =
       ⊎_elim (λ t. let same = sym e ∙ (rw t at w.answer) in never cc)
       (λ t. let same = sym e ∙ (rw t at w.answer) in (ltb-false _ _ t, cc, rw t at w.kept))
       (true_or_false (ltb (length out) (length line)))
 
-  lacks_room : {f : Refusal} → r ≡ written.Refused f → (length out < length line) × (f ≡ no_room) × (row ≡ out)
+  lacks_room : {f : Refusal} → r ≡ Err f → (length out < length line) × (f ≡ no_room) × (row ≡ out)
   unfolding line_answer line_row
   lacks_room e =
       ⊎_elim (λ t. let same = sym e ∙ (rw t at w.answer) in (ltb-true _ _ t, cc, rw t at w.kept))
@@ -66,8 +67,8 @@ module _ (line out : List ℕ) (at : ℕ) (within : at ≤ length out) where
   behind : drop (length out - at) (drop at out) ≡ []
   behind = drop_of_length-le (drop at out) {i = length out - at} (omega (arith, length-drop at out))
 
-  module _ {r : Written} {row : List ℕ} (w : LineWritten line part r row) where
-    pub not_added : {f : Refusal} → r ≡ written.Refused f → Added line at out 0 (take at out ++ (row ++ drop (length out - at) (drop at out)))
+  module _ {r : Result ℕ Refusal} {row : List ℕ} (w : LineWritten line part r row) where
+    not_added : {f : Refusal} → r ≡ Err f → Added line at out 0 (take at out ++ (row ++ drop (length out - at) (drop at out)))
     unfolding if_fits
     not_added e =
         let h = lacks_room line part w e in
@@ -76,7 +77,7 @@ module _ (line out : List ℕ) (at : ℕ) (within : at ≤ length out) where
         let here : at + 0 ≡ at = omega arith in
         record { many = rw t; row_is = rw (t, behind, kept, append-nil, here) }
 
-    pub added : {bytes : ℕ} → r ≡ written.Line bytes → Added line at out bytes (take at out ++ (row ++ drop (length out - at) (drop at out)))
+    added : {bytes : ℕ} → r ≡ Ok bytes → Added line at out bytes (take at out ++ (row ++ drop (length out - at) (drop at out)))
     unfolding if_fits
     added e =
         let h = has_room line part w e in
@@ -84,16 +85,24 @@ module _ (line out : List ℕ) (at : ℕ) (within : at ≤ length out) where
         let kept : row ≡ line ++ drop (at + length line) out = h.2 ∙ rw (part_is, drop-drop) in
         record { many = rw t h.1; row_is = rw (t, behind, kept, append-nil, h.1) }
 
+    -- The bytes are none where the line has no room.
+    pub put_from : Added line at out (result_unwrap_or r 0) (take at out ++ (row ++ drop (length out - at) (drop at out)))
+    put_from = by r refl
+      where
+        by : (k : Result ℕ Refusal) → r ≡ k → Added line at out (result_unwrap_or k 0) (take at out ++ (row ++ drop (length out - at) (drop at out)))
+        by (Ok n) e = added e
+        by (Err f) e = not_added e
+
 -- no line left, a first line without room, and a first line with room
 
-none_left : (out : List ℕ) → LinesWritten [] out (block.Lines 0 0) out
+none_left : (out : List ℕ) → LinesWritten [] out (Ok (block_of 0 0)) out
 unfolding lines_answer lines_row run_answer fitting join
 none_left out = record { answer = refl; kept = refl }
 
-none_fits : (ls : List (List ℕ)) (out : List ℕ) {f : Refusal} → f ≡ no_room → length out < length (line_at 0 ls) → LinesWritten ls out (block.Refused f) out
+none_fits : (ls : List (List ℕ)) (out : List ℕ) {f : Refusal} → f ≡ no_room → length out < length (line_at 0 ls) → LinesWritten ls out (Err f) out
 unfolding lines_answer lines_row run_answer fitting join line_at
 none_fits [] out is h = absurd (omega arith)
-none_fits (l ∷ ls) out is h = let t = lt-ltb (length out) (length l) h in record { answer = rw t (ap block.Refused is); kept = rw t }
+none_fits (l ∷ ls) out is h = let t = lt-ltb (length out) (length l) h in record { answer = rw t (ap Err is); kept = rw t }
 
 first_fits : (ls : List (List ℕ)) (room : ℕ) → length (line_at 0 ls) ≤ room → line_at 0 (fitting room ls) ≡ line_at 0 ls
 unfolding fitting line_at
@@ -101,7 +110,7 @@ first_fits [] room h = refl
 first_fits (l ∷ ls) room h = rw (le-ltb room (length l) h)
 
 pub some_fit : (ls : List (List ℕ)) (room : ℕ) → length (line_at 0 ls) ≤ room
-    → run_answer ls (fitting room ls) ≡ block.Lines (length (fitting room ls)) (length (join (fitting room ls)))
+    → run_answer ls (fitting room ls) ≡ Ok (block_of (length (fitting room ls)) (length (join (fitting room ls))))
 unfolding fitting line_at run_answer join
 some_fit [] room h = refl
 some_fit (l ∷ ls) room h = rw (le-ltb room (length l) h)
@@ -120,11 +129,11 @@ join_first (l ∷ ls) = refl
 front_twice : (bytes more out : List ℕ) → in_front (bytes ++ more) (in_front bytes out) ≡ in_front (bytes ++ more) out
 front_twice bytes more out = rw (length-append, drop-append-add, drop-drop)
 
-module _ (ls : List (List ℕ)) (out : List ℕ) {r : Written} {row : List ℕ} (w : LineWritten (line_at 0 ls) out r row) where
-  lines_refused : {f g : Refusal} → g ≡ no_room → r ≡ written.Refused f → LinesWritten ls out (block.Refused g) row
+module _ (ls : List (List ℕ)) (out : List ℕ) {r : Result ℕ Refusal} {row : List ℕ} (w : LineWritten (line_at 0 ls) out r row) where
+  lines_refused : {f g : Refusal} → g ≡ no_room → r ≡ Err f → LinesWritten ls out (Err g) row
   lines_refused is e = let h = lacks_room (line_at 0 ls) out w e in rw h.2 (none_fits ls out is h.0)
 
-  module _ {first : ℕ} (e : r ≡ written.Line first) where
+  module _ {first : ℕ} (e : r ≡ Ok first) where
     abbrev fits : length (line_at 0 ls) ≤ length out
     fits = (has_room (line_at 0 ls) out w e).0
 
@@ -148,13 +157,13 @@ module _ (ls : List (List ℕ)) (out : List ℕ) {r : Written} {row : List ℕ} 
               (sym (ap (drop (length (line_at 0 ls))) row_is ∙ drop_at (line_at 0 ls) (drop (length (line_at 0 ls)) out) (length (line_at 0 ls)) refl)));
         }
 
-    lines_ran : {b : Block} {after : List ℕ} → Ran ls row b after → LinesWritten ls out b after
+    lines_ran : {b : Block} {after : List ℕ} → Ran ls row b after → LinesWritten ls out (Ok b) after
     unfolding lines_answer lines_row
     lines_ran ran =
         let fit = fitting (length out) ls in
         let parts : join fit ≡ line_at 0 ls ++ join (drop 1 fit) = join_first fit ∙ ap (λ (l : List ℕ). l ++ join (drop 1 fit)) (first_fits ls (length out) fits) in
         record {
-          answer = (rw same_length at ran.answer) ∙ sym (some_fit ls (length out) fits);
+          answer = ap (λ k. Ok k) (rw same_length at ran.answer) ∙ sym (some_fit ls (length out) fits);
           kept =
               (rw (same_length, row_is) at ran.kept)
               ∙ ap (λ (bytes : List ℕ). in_front bytes (in_front (line_at 0 ls) out)) parts
@@ -165,20 +174,20 @@ module _ (ls : List (List ℕ)) (out : List ℕ) {r : Written} {row : List ℕ} 
 -- the one line of a refusal
 
 module _ (index : ℕ) (told : Refusal) (out : List ℕ) where
-  pub refusal_none : 0 < index → LinesWritten (drop index (refusal_lines told)) out (block.Lines 0 0) out
+  pub refusal_none : 0 < index → LinesWritten (drop index (refusal_lines told)) out (Ok (block_of 0 0)) out
   refusal_none h = rw (drop_of_length-le (refusal_lines told) {i = index} (omega arith)) (none_left out)
 
-  module _ {r : Written} {row : List ℕ} (first : index ≡ 0) (w : LineWritten (spell_line (refusal_bytes told)) out r row) where
+  module _ {r : Result ℕ Refusal} {row : List ℕ} (first : index ≡ 0) (w : LineWritten (spell_line (refusal_bytes told)) out r row) where
     first_line : LineWritten (line_at 0 (refusal_lines told)) out r row
     unfolding line_at
     first_line = w
 
-    pub refusal_short : {f : Refusal} → r ≡ written.Refused f → LinesWritten (drop index (refusal_lines told)) out (block.Refused f) row
+    pub refusal_short : {f : Refusal} → r ≡ Err f → LinesWritten (drop index (refusal_lines told)) out (Err f) row
     refusal_short e =
         let h = lacks_room (spell_line (refusal_bytes told)) out w e in
         rw first (lines_refused (refusal_lines told) out first_line h.1 e)
 
-    pub refusal_whole : {bytes : ℕ} → r ≡ written.Line bytes → LinesWritten (drop index (refusal_lines told)) out (block.Lines 1 bytes) row
+    pub refusal_whole : {bytes : ℕ} → r ≡ Ok bytes → LinesWritten (drop index (refusal_lines told)) out (Ok (block_of 1 bytes)) row
     unfolding lines_answer lines_row run_answer fitting join
     refusal_whole e =
         let h = has_room (spell_line (refusal_bytes told)) out w e in
@@ -222,62 +231,43 @@ module _ (n : Network) (labels row : List ℕ) where
   told_first : (index : ℕ) → told_line index n labels row ≡ line_at 0 (drop index (drawn_lines n labels row))
   told_first index = told_at index ∙ sym (drop_first index (drawn_lines n labels row))
 
-  -- a run of lines where labels and marks have room, and where not
-  block_made : {index : ℕ} {out : List ℕ} {b : Block} {after : List ℕ} → either_short (size n) labels row ≡ false
-      → LinesWritten (drop index (drawn_lines n labels row)) out b after
-      → BlockAnswered index (network n) labels row out b after
-  unfolding block_answer block_row
-  block_made t w = record { answer = rw t w.answer; kept = rw t w.kept }
+  -- the first line of those that are left decides
+  module _ (index : ℕ) {out : List ℕ} {r : Result ℕ Refusal} {row' : List ℕ} (w : LineWritten (told_line index n labels row) out r row') where
+    first_written : LineWritten (line_at 0 (drop index (drawn_lines n labels row))) out r row'
+    first_written = rw (← told_first index) w
 
-  -- and what is answered where they have room
-  pub block_written : {index : ℕ} {out : List ℕ} {b : Block} {after : List ℕ} → size n ≤ length labels → size n ≤ length row
-      → BlockAnswered index (network n) labels row out b after
-      → LinesWritten (drop index (drawn_lines n labels row)) out b after
-  unfolding block_answer block_row
-  block_written h l a =
-      let t = room (size n) labels row h l in record { answer = rw t at a.answer; kept = rw t at a.kept }
+    pub first_refused : {f : Refusal} → r ≡ Err f → LinesWritten (drop index (drawn_lines n labels row)) out (Err f) row'
+    first_refused e =
+        let ls = drop index (drawn_lines n labels row) in
+        lines_refused ls out first_written (lacks_room (line_at 0 ls) out first_written e).1 e
 
-  -- the first line's answer
-  module _ {index : ℕ} {out : List ℕ} {r : Written} {row' : List ℕ} (a : LineAnswered index (network n) labels row out r row') where
-    first_written : either_short (size n) labels row ≡ false → LineWritten (line_at 0 (drop index (drawn_lines n labels row))) out r row'
-    unfolding told_answer told_row
-    first_written t = rw (← told_first index) (record { answer = rw t at a.answer; kept = rw t at a.kept })
-
-    pub first_refused : {f g : Refusal} → g ≡ no_room → r ≡ written.Refused f
-        → BlockAnswered index (network n) labels row out (block.Refused g) row'
-    unfolding told_row block_answer block_row
-    first_refused is e =
-        ⊎_elim (λ t. record { answer = rw t (ap block.Refused is); kept = rw t (rw t at a.kept) })
-        (λ t. block_made t (lines_refused (drop index (drawn_lines n labels row)) out (first_written t) is e))
-        (true_or_false (either_short (size n) labels row))
-
-    module _ {first : ℕ} (e : r ≡ written.Line first) where
-      roomy : either_short (size n) labels row ≡ false
-      unfolding told_answer
-      roomy =
-          ⊎_elim (λ t. let same = sym e ∙ (rw t at a.answer) in never cc) (λ t. t)
-          (true_or_false (either_short (size n) labels row))
-
-      pub first_rooms : (size n ≤ length labels) × (size n ≤ length row)
-      first_rooms =
-          let t = neither_true (ltb (length labels) (size n)) (ltb (length row) (size n)) roomy in (ltb-false _ _ t.0, ltb-false _ _ t.1)
-
+    module _ {first : ℕ} (e : r ≡ Ok first) where
       pub first_begun : Begun (drop index (drawn_lines n labels row)) first row'
-      first_begun = lines_begun (drop index (drawn_lines n labels row)) out (first_written roomy) e
+      first_begun = lines_begun (drop index (drawn_lines n labels row)) out first_written e
 
       pub first_ran : {b : Block} {after : List ℕ} → Ran (drop index (drawn_lines n labels row)) row' b after
-          → BlockAnswered index (network n) labels row out b after
-      first_ran ran = block_made roomy (lines_ran (drop index (drawn_lines n labels row)) out (first_written roomy) e ran)
+          → LinesWritten (drop index (drawn_lines n labels row)) out (Ok b) after
+      first_ran ran = lines_ran (drop index (drawn_lines n labels row)) out first_written e ran
 
--- a refusal handed on, and a network's answer
+-- a refusal of the rows handed over, and the lines of what they hold
 
-module _ {reading : Reading} where
-  pub block_refused : {f : Refusal} (index : ℕ) (labels row out : List ℕ) → reading ≡ refused f
-      → BlockAnswered index reading labels row out (block.Refused f) out
-  unfolding block_answer block_row
-  block_refused index labels row out e = record { answer = rw e; kept = rw e }
+pub block_refused : (reading : Reading) (index : ℕ) (labels row out : List ℕ) {f : Refusal} → refusing reading labels row f
+    → BlockAnswered index reading labels row out (Err f) out
+unfolding block_answer block_row
+block_refused (refused g) index labels row out h = record { answer = ap (λ k. Err k) h; kept = refl }
+block_refused (network n) index labels row out h = record { answer = rw h.0 (ap (λ k. Err k) h.1); kept = rw h.0 }
 
-  pub block_told : {n : Network} {index : ℕ} {labels row out : List ℕ} {b : Block} {after : List ℕ} → reading ≡ network n
-      → BlockAnswered index (network n) labels row out b after
-      → BlockAnswered index reading labels row out b after
-  block_told e a = record { answer = rw e a.answer; kept = rw e a.kept }
+pub block_told : {reading : Reading} {n : Network} {labels row : List ℕ} (index : ℕ) (out : List ℕ) {b : Result Block Refusal} {after : List ℕ}
+    → reading ≡ network n → either_short (size n) labels row ≡ false
+    → LinesWritten (drop index (drawn_lines n labels row)) out b after
+    → BlockAnswered index reading labels row out b after
+unfolding block_answer block_row
+block_told index out e t w = record { answer = rw (e, t) w.answer; kept = rw (e, t) w.kept }
+
+-- and what is answered where labels and marks have room
+pub block_written : (n : Network) (labels row : List ℕ) {index : ℕ} {out : List ℕ} {b : Result Block Refusal} {after : List ℕ}
+    → size n ≤ length labels → size n ≤ length row → BlockAnswered index (network n) labels row out b after
+    → LinesWritten (drop index (drawn_lines n labels row)) out b after
+unfolding block_answer block_row
+block_written n labels row h l a =
+    let t = room (size n) labels row h l in record { answer = rw t at a.answer; kept = rw t at a.kept }

@@ -1,4 +1,6 @@
 -- Laws of the run of lines that fits a room, line by line, and of a row that has the first of them in front.
+use Rattle.std.specs.Prelude.{Result, Ok, Err}
+use Rattle.results.specs.Block.{block_of}
 use Prim.Native.Nat.{ℕ, zero, suc, ◌+◌, ◌-◌, ◌≤◌, ◌<◌}
 use mathlib.Core.Path.{◌≡◌, refl, sym, ◌∙◌, ap}
 use mathlib.Core.Logic.{⊎_elim}
@@ -11,7 +13,6 @@ use lib.Seq.{take_all, take_at, drop-append-add, drop-drop, get_or-drop}
 use Rattle.model.proofs.Lists.{true_or_false}
 use Rattle.texts.specs.Spelling.{join}
 use Rattle.frames.specs.Put.{line_at}
-use Rattle.results.specs.declared.block.Block.TheVariants.{Lines}
 use Rattle.results.specs.Block.{fitting, LongestRun, in_front, lines_row}
 use Rattle.results.specs.steps.Block.{if_fits, Added, Begun, Ran}
 
@@ -187,7 +188,7 @@ module _ (ls : List (List ℕ)) (out : List ℕ) where
               ∙ rw (join_more (suc count) fit);
         }
 
-    pub running_ends : Full ls → (0 < bytes → ⊥) → Ran ls out (Lines count at) row
+    pub running_ends : Full ls → (0 < bytes → ⊥) → Ran ls out (block_of count at) row
     unfolding lines_row
     running_ends full none =
         let all : length fit ≤ count =
@@ -197,4 +198,4 @@ module _ (ls : List (List ℕ)) (out : List ℕ) where
         let many : count ≡ length fit = omega (arith, r.few) in
         let whole : take count fit ≡ fit = take_all count fit all in
         let whole' : take (suc count) fit ≡ fit = take_all (suc count) fit (omega arith) in
-        record { answer = rw (← many) (ap (Lines count) (r.past ∙ ap (λ (l : List (List ℕ)). length (join l)) whole)); kept = rw whole' at r.row_is }
+        record { answer = rw (← many) (ap (λ (bytes : ℕ). block_of count bytes) (r.past ∙ ap (λ (l : List (List ℕ)). length (join l)) whole)); kept = rw whole' at r.row_is }

@@ -1,7 +1,7 @@
 pub mod Lengths
 pub mod ResultLines
 pub mod LineAt
-pub mod OutputDelay
+pub mod Roomy
 pub mod Answered
 pub mod Fitting
 pub mod Blocks

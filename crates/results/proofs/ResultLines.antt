@@ -1,4 +1,5 @@
 -- Laws of the result's lines: a frame's parts put one after the other, and what they need.
+use Rattle.std.specs.Prelude.{Result, Ok, Err}
 use Prim.Native.Nat.{ℕ, ◌+◌, ◌*◌, ◌/◌, ◌%◌, ◌≤◌, ◌<◌}
 use mathlib.Core.Path.{◌≡◌}
 use mathlib.Core.List.{List, [], ◌∷◌, ◌++◌}
@@ -8,8 +9,6 @@ use Rattle.frames.specs.Digits.{word_bytes, spell_line}
 use Rattle.frames.proofs.Digits.{length_digits}
 use Rattle.frames.specs.declared.Refusal.{Refusal}
 use Rattle.frames.specs.Refusal.{at_column, no_room}
-use Rattle.frames.specs.declared.Written.{Written}
-use Rattle.frames.specs.declared.Written.TheVariants.{Refused}
 use Rattle.frames.specs.Digits.{digits}
 use Rattle.frames.specs.Put.{Put, Fed, LineWritten}
 use Rattle.frames.proofs.Puts.{Stands, put_stands, stands_then}
@@ -28,11 +27,11 @@ pub record Laid (bs out : List ℕ) (next : ℕ) (row : List ℕ) : Type 0 where
   pub stands : Stands bs 0 out next row
 
 -- a row too short for a frame's line
-pub short_line : (bs out : List ℕ) {f : Refusal} → f ≡ no_room → length out < 2 * length bs + 1 → LineWritten (spell_line bs) out (Refused f) out
+pub short_line : (bs out : List ℕ) {f : Refusal} → f ≡ no_room → length out < 2 * length bs + 1 → LineWritten (spell_line bs) out (Err f) out
 short_line bs out is h = line_short (spell_line bs) out is (omega (arith, line_length bs))
 
 module _ {bs out : List ℕ} {next : ℕ} {row : List ℕ} (laid : Laid bs out next row) where
-  pub laid_line : {r : Written} {after : List ℕ} → Fed next row r after → LineWritten (spell_line bs) out r after
+  pub laid_line : {r : Result ℕ Refusal} {after : List ℕ} → Fed next row r after → LineWritten (spell_line bs) out r after
   laid_line e = line_ends bs out next row laid.fits laid.stands _ _ e
 
 -- The parts of a frame put one after the other.

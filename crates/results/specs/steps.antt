@@ -1,3 +1,4 @@
 -- What only the contracts of private functions cite.
 pub mod Line
 pub mod Block
+pub mod Marked

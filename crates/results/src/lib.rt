@@ -4,3 +4,4 @@
 
 pub mod block;
 pub mod line;
+mod marked;

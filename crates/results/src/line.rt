@@ -5,153 +5,139 @@ ghost use Rattle.model.specs.Drawing.{members as members_in};
 ghost use Rattle.units.specs.Units.{label_place};
 ghost use Rattle.frames.specs.Digits.{spell_line};
 ghost use Rattle.frames.specs.Put.{LineWritten, line_at};
-ghost use Rattle.texts.specs.Reading.{network};
-ghost use Rattle.rows.specs.Row.{network_in};
+ghost use Rattle.rows.specs.Found.{network_of};
 ghost use Rattle.rows.specs.Spelling.{row_answer};
-ghost use Rattle.rows.specs.steps.Holds.{Holds};
 ghost use Rattle.selection.specs.Selection.{roots};
 ghost use Rattle.results.specs.Result.{result_bytes, label_bytes, cluster_bytes, result_end_bytes, refusal_bytes};
-ghost use Rattle.results.specs.Line.{LineAnswered};
+ghost use Rattle.results.specs.Line.{told_line, LineAnswered};
 ghost use Rattle.results.specs.steps.Line.{later_lines};
 
-use frames::put::{feed, put_byte, put_long, put_word, put_words};
-use frames::{Refusal, Written};
-use rows::{Header, Read};
+use crate::marked::Marked;
+use frames::Refusal;
+use frames::put::{feed, put, put_words};
+use labelling::labelled::Labelled;
+use rows::Header;
 use selection::{count_marked, nth_marked, output_delay};
 use units::{GateNumber, Ticks};
 
 // The first line: the output delay and how many clusters are drawn [F6].
-fn result_line(delay: Ticks, clusters: u16, out: &mut [u8]) -> Written
+fn result_line(delay: Ticks, clusters: u16, out: &mut [u8]) -> Result<usize, Refusal>
     ensures { LineWritten (spell_line (result_bytes (label_place delay) clusters)) out.old result out.new }
 {
     if out.len() < 15 {
-        return Written::Refused(Refusal::no_room());
+        return Err(Refusal::no_room());
     }
-    let at = put_byte(out, 0, 0x11);
-    let at = put_long(out, at, delay.label_place());
-    let at = put_word(out, at, clusters);
+    let at = put(out, 0, &[0x11]);
+    let at = put(out, at, &delay.label_place().to_be_bytes());
+    let at = put(out, at, &clusters.to_be_bytes());
     feed(out, at)
 }
 
 // A gate and its label [F7].
-fn label_line(gate: u16, label: u32, out: &mut [u8]) -> Written
+fn label_line(gate: u16, label: u32, out: &mut [u8]) -> Result<usize, Refusal>
     ensures { LineWritten (spell_line (label_bytes gate label)) out.old result out.new }
 {
     if out.len() < 15 {
-        return Written::Refused(Refusal::no_room());
+        return Err(Refusal::no_room());
     }
-    let at = put_byte(out, 0, 0x12);
-    let at = put_word(out, at, gate);
-    let at = put_long(out, at, label);
+    let at = put(out, 0, &[0x12]);
+    let at = put(out, at, &gate.to_be_bytes());
+    let at = put(out, at, &label.to_be_bytes());
     feed(out, at)
 }
 
 // A root, how many members its cluster has, and they [F8].
-fn cluster_line(root: u16, members: &[u16], out: &mut [u8]) -> Written
+fn cluster_line(root: u16, members: &[u16], out: &mut [u8]) -> Result<usize, Refusal>
     requires { length members.now < 2 ^ 16 }
     ensures { LineWritten (spell_line (cluster_bytes root members.now)) out.old result out.new }
 {
     if out.len() < 11 + 4 * members.len() {
-        return Written::Refused(Refusal::no_room());
+        return Err(Refusal::no_room());
     }
-    let at = put_byte(out, 0, 0x13);
-    let at = put_word(out, at, root);
-    let at = put_word(out, at, members.len() as u16);
+    let at = put(out, 0, &[0x13]);
+    let at = put(out, at, &root.to_be_bytes());
+    let at = put(out, at, &(members.len() as u16).to_be_bytes());
     let at = put_words(out, at, members);
     feed(out, at)
 }
 
 // The last line: how many gates there are [F9].
-fn end_line(gates: u16, out: &mut [u8]) -> Written
+fn end_line(gates: u16, out: &mut [u8]) -> Result<usize, Refusal>
     ensures { LineWritten (spell_line (result_end_bytes gates)) out.old result out.new }
 {
     if out.len() < 7 {
-        return Written::Refused(Refusal::no_room());
+        return Err(Refusal::no_room());
     }
-    let at = put_byte(out, 0, 0x1F);
-    let at = put_word(out, at, gates);
+    let at = put(out, 0, &[0x1F]);
+    let at = put(out, at, &gates.to_be_bytes());
     feed(out, at)
 }
 
 // A refusal's line [F10]. No text has a line or a column that two bytes do not hold; of a number that they do not hold the two
 // lowest bytes are written.
-pub fn refusal_line(refusal: Refusal, out: &mut [u8]) -> Written
+pub fn refusal_line(refusal: Refusal, out: &mut [u8]) -> Result<usize, Refusal>
     ensures { LineWritten (spell_line (refusal_bytes refusal)) out.old result out.new }
 {
     if out.len() < 13 {
-        return Written::Refused(Refusal::no_room());
+        return Err(Refusal::no_room());
     }
-    let at = put_byte(out, 0, 0x1E);
-    let at = put_byte(out, at, refusal.number);
-    let at = put_word(out, at, (refusal.line % 65_536) as u16);
-    let at = put_word(out, at, (refusal.column % 65_536) as u16);
+    let at = put(out, 0, &[0x1E]);
+    let at = put(out, at, &[refusal.number]);
+    let at = put(out, at, &((refusal.line % 65_536) as u16).to_be_bytes());
+    let at = put(out, at, &((refusal.column % 65_536) as u16).to_be_bytes());
     feed(out, at)
 }
 
 // The 13 of a root: its cluster's members, rising.
-fn member_line(header: Header, row: &[u16], labels: &[u32], root: usize, out: &mut [u8]) -> Written
-    requires { Holds header row.now × (root < header.gates) × (header.gates ≤ length labels.now) }
+fn member_line(labelled: &Labelled, root: usize, out: &mut [u8]) -> Result<usize, Refusal>
+    requires { root < labelled.now.network.header.gates }
     ensures { LineWritten
-        (spell_line (cluster_bytes root (members_in (network_in header row.now) labels.now root)))
+        (spell_line (cluster_bytes root (members_in (network_of labelled.now.network) labelled.now.labels.now root)))
         out.old result out.new }
 {
     let mut members = [0; GateNumber::MOST_GATES];
-    let count = labelling::members_of(header, row, labels, root, &mut members);
+    let count = labelled.members_of(root, &mut members);
     cluster_line(root as u16, &members[..count], out)
 }
 
 // The line of that index behind the labels: a 13 for each root by rising root, and 1F; past it nothing.
-fn later_line(
-    index: usize,
-    header: Header,
-    row: &[u16],
-    labels: &[u32],
-    marks: &[u8],
-    out: &mut [u8],
-) -> Written
-    requires { Holds header row.now × (header.gates ≤ length labels.now) }
+fn later_line(index: usize, drawn: &Marked, out: &mut [u8]) -> Result<usize, Refusal>
     ensures { LineWritten
-        (line_at index (later_lines (network_in header row.now) labels.now (roots marks.now header.gates)))
+        (line_at index
+        (later_lines (network_of drawn.now.labelled.network) drawn.now.labelled.labels.now
+        (roots drawn.now.marks.now drawn.now.labelled.network.header.gates)))
         out.old result out.new }
 {
-    let gates = header.gates;
-    let clusters = count_marked(gates, marks);
+    let gates = drawn.labelled.network.header.gates;
+    let clusters = count_marked(gates, drawn.marks);
     if index < clusters {
-        let root = nth_marked(gates, marks, index);
-        return member_line(header, row, labels, root, out);
+        let root = nth_marked(gates, drawn.marks, index);
+        return member_line(&drawn.labelled, root, out);
     }
     if index == clusters {
         return end_line(gates as u16, out);
     }
-    Written::Line(0)
+    Ok(0)
 }
 
-// The line of that index of a network that is known to stand in its row.
-pub(crate) fn known_line(
-    index: usize,
-    header: Header,
-    row: &[u16],
-    labels: &[u32],
-    marks: &[u8],
-    out: &mut [u8],
-) -> Written
-    requires { Holds header row.now }
-    ensures { LineAnswered index (network (network_in header row.now)) labels.now marks.now out.old result out.new }
+// The line of that index of a network that is known to stand in its row, with its labels and marks.
+pub(crate) fn known_line(index: usize, drawn: &Marked, out: &mut [u8]) -> Result<usize, Refusal>
+    ensures { LineWritten
+        (told_line index (network_of drawn.now.labelled.network) drawn.now.labelled.labels.now drawn.now.marks.now)
+        out.old result out.new }
 {
-    let gates = header.gates;
-    if labels.len() < gates || marks.len() < gates {
-        return Written::Refused(Refusal::no_room());
-    }
+    let labels = drawn.labelled.labels;
+    let gates = drawn.labelled.network.header.gates;
     if index == 0 {
-        let delay = output_delay(header, row, labels);
-        let clusters = count_marked(gates, marks);
+        let delay = output_delay(&drawn.labelled);
+        let clusters = count_marked(gates, drawn.marks);
         return result_line(delay, clusters as u16, out);
     }
     let gate = index - 1;
     if gate < gates {
         return label_line(gate as u16, labels[gate], out);
     }
-    later_line(gate - gates, header, row, labels, marks, out)
+    later_line(gate - gates, drawn, out)
 }
 
 // The line of that index, counted from 0, of the result of the network that stands in the row, from its labels and the
@@ -164,12 +150,9 @@ pub fn line(
     labels: &[u32],
     marks: &[u8],
     out: &mut [u8],
-) -> Written
+) -> Result<usize, Refusal>
     ensures { LineAnswered index (row_answer header row.now) labels.now marks.now out.old result out.new }
 {
-    let read = rows::check(header, row);
-    let Read::Network(known) = read else {
-        return Written::Refused(read.refusal());
-    };
-    known_line(index, known, row, labels, marks, out)
+    let drawn = Marked::find(header, row, labels, marks)?;
+    known_line(index, &drawn, out)
 }

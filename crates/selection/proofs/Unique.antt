@@ -11,7 +11,7 @@ use Rattle.selection.proofs.draw.Reads as draw
 -- Passed by value, or lent by `&`: nothing of the arguments changes, and the result is the whole outcome.
 
 pub output_delay_unique : OneOutcome output_delay.Learnt (λ κs exit. tt {0})
-output_delay_unique κs args r s exit exit' p q = (ap ticks (same p q), refl)
+output_delay_unique κs args r s exit exit' p q = (ap ticks (same p.1 q.1), refl)
 
 pub count_marked_unique : OneOutcome count_marked.Learnt (λ κs exit. tt {0})
 count_marked_unique κs args r s exit exit' p q = (same p q, refl)

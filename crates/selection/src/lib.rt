@@ -2,7 +2,7 @@
 // has a mark in a row with a place for each gate, 1 for drawn and 0 for not.
 #![tactic(auto)]
 
-ghost use Rattle.std.specs.Prelude.{◌≡◌, ◌≤◌, ◌<◌, length, get_or, replicate};
+ghost use Rattle.std.specs.Prelude.{◌≡◌, ◌^◌, ◌≤◌, ◌<◌, length, get_or, replicate};
 ghost use Rattle.model.specs.Basics.{upto};
 ghost use Rattle.model.specs.Ceilings.{most_gates};
 ghost use Rattle.model.specs.Drawing.{mark, inputs, select, marks as marks_of};
@@ -50,15 +50,23 @@ fn reads(network: &Network) -> Marks
     read
 }
 
+// A label as a time.
+fn time(label: u32) -> Ticks
+    ensures { (result.0 ≡ label) × (result.0 < 2 ^ 32) }
+{
+    Ticks(u64::from(label))
+}
+
 // The largest label of a gate without a mark.
 fn largest_unmarked(row: &Marks, labelled: &Labelled) -> Ticks
-    ensures { result.0 ≡ largest_label labelled.now.labels.now (unmarked row.now labelled.now.network.header.gates) }
+    ensures small { result.0 < 2 ^ 32 }
+    ensures largest { result.0 ≡ largest_label labelled.now.labels.now (unmarked row.now labelled.now.network.header.gates) }
 {
     let labels = &labelled.labels[..labelled.network.header.gates];
     let mut largest = Ticks(0);
     for (&mark, &label) in row.iter().zip(labels) {
         if mark == 0 {
-            largest = largest.larger(Ticks(u64::from(label)));
+            largest = largest.larger(time(label));
         }
     }
     largest
@@ -66,7 +74,8 @@ fn largest_unmarked(row: &Marks, labelled: &Labelled) -> Ticks
 
 // The largest label of a primary output [S5].
 pub fn output_delay(labelled: &Labelled) -> Ticks
-    ensures { result.0 ≡ delay_from (network_of labelled.now.network) labelled.now.labels.now }
+    ensures small { result.0 < 2 ^ 32 }
+    ensures delay { result.0 ≡ delay_from (network_of labelled.now.network) labelled.now.labels.now }
 {
     largest_unmarked(&reads(&labelled.network), labelled)
 }

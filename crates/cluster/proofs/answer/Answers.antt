@@ -5,8 +5,8 @@ use Rattle.cluster.proofs.answer.Goals as goal
 
 pub print-requires : goal.print-requires
 print-requires c =
-    prepared_of c.prepare-prepared.ensures (omega arith)
+    prepared_of c.prepare-answer.ensures (omega arith)
 
 pub returns : goal.returns
 returns c =
-    c.print.ensures (prepared_of c.prepare-prepared.ensures (omega arith))
+    c.print.ensures (prepared_of c.prepare-answer.ensures (omega arith))

@@ -2,46 +2,45 @@
 use mathlib.Core.Path.{refl, ap}
 use mathlib.Core.Logic.{inl, inr}
 use native.Mathlib.Omega.{arith}
+use Rattle.std.specs.Prelude.{Ok}
+use Rattle.std.proofs.lemmas.Result.{err_from_is_err_and}
 use Rattle.cluster.specs.Printing.{first}
-use Rattle.cluster.specs.declared.Printed.TheVariants.{Lines}
 use Rattle.cluster.proofs.Blocks.{begins_few, goes_on, at_last}
 use Rattle.cluster.proofs.print.Goals as goal
 
 pub loop-count-init : goal.loop-count-init
-loop-count-init c =
-    (refl, λ t. first)
+loop-count-init c = (refl, λ t. first)
 
-pub print_block-printed-requires : goal.print_block-printed-requires
-print_block-printed-requires c =
+pub print_block-requires : goal.print_block-requires
+print_block-requires c =
     let t = c.requires in
     record { roomy = omega arith; prepared = t; begins = rw c.loop-count.invariant.0 (c.loop-count.invariant.1 t) }
 
-pub returns-in_default : goal.returns-in_default
-returns-in_default c t =
-    inr refl
+pub returns-in_err-count : goal.returns-in_err-count
+returns-in_err-count c t =
+    let p = err_from_is_err_and c.from_residual.result c.from_residual.ensures.1 in
+    inr p.1
 
 pub returns-then-count-eq0 : goal.returns-then-count-eq0
 returns-then-count-eq0 c t =
     let loop = c.loop-count in
-    let printed = rw c.in-Lines.is at c.print_block-printed.ensures in
-    inl (ap Lines (at_last t (loop.invariant.1 t) loop.invariant.0 printed (omega arith) (omega arith)))
+    let printed = rw c.in_ok-count.was at c.print_block.ensures in
+    inl (ap (λ k. Ok k) (at_last t (loop.invariant.1 t) loop.invariant.0 printed (omega arith) (omega arith)))
 
 pub loop-count-preserved : goal.loop-count-preserved
 loop-count-preserved c =
     let loop = c.loop-count in
-    let printed = rw c.in-Lines.is at c.print_block-printed.ensures in
+    let printed = rw c.in_ok-count.was at c.print_block.ensures in
     (omega arith, λ t. goes_on t (loop.invariant.1 t) loop.invariant.0 printed)
 
 pub overflow_add-index : goal.overflow_add-index
 overflow_add-index c =
-    let t = c.requires in
     let loop = c.loop-count in
-    let printed = rw c.in-Lines.is at c.print_block-printed.ensures in
-    omega (arith, begins_few (goes_on t (loop.invariant.1 t) loop.invariant.0 printed))
+    let printed = rw c.in_ok-count.was at c.print_block.ensures in
+    omega (arith, begins_few (goes_on c.requires (loop.invariant.1 c.requires) loop.invariant.0 printed))
 
 pub loop-count-smaller : goal.loop-count-smaller
 loop-count-smaller c =
-    let t = c.requires in
     let loop = c.loop-count in
-    let printed = rw c.in-Lines.is at c.print_block-printed.ensures in
-    omega (arith, begins_few (goes_on t (loop.invariant.1 t) loop.invariant.0 printed))
+    let printed = rw c.in_ok-count.was at c.print_block.ensures in
+    omega (arith, begins_few (goes_on c.requires (loop.invariant.1 c.requires) loop.invariant.0 printed))

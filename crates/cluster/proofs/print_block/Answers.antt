@@ -6,25 +6,16 @@ use Rattle.cluster.proofs.Blocks.{told_within, told_bytes, block_printed}
 use Rattle.cluster.proofs.print_block.Goals as goal
 
 pub returns-in_default : goal.returns-in_default
-returns-in_default c t =
-    inr refl
+returns-in_default c t = inr refl
 
 pub slice_bounds-show-end : goal.slice_bounds-show-end
-slice_bounds-show-end c =
-    told_within c.tell_lines-told.ensures c.in-Lines.is
-    c.requires
+slice_bounds-show-end c = told_within c.tell_lines.ensures c.in-Ok.is c.requires
 
 pub slice_bounds-show-end-2 : goal.slice_bounds-show-end-2
-slice_bounds-show-end-2 c =
-    sym (length-take-le _ _ (told_within c.tell_lines-told.ensures c.in-Lines.is c.requires))
+slice_bounds-show-end-2 c = sym (length-take-le _ _ (told_within c.tell_lines.ensures c.in-Ok.is c.requires))
 
 pub show-requires : goal.show-requires
-show-requires c =
-    told_bytes c.tell_lines-told.ensures c.in-Lines.is
-    c.requires
+show-requires c = told_bytes c.tell_lines.ensures c.in-Ok.is c.requires
 
 pub returns : goal.returns
-returns c =
-    block_printed c.tell_lines-told.ensures c.in-Lines.is
-    c.requires
-    c.show.ensures
+returns c = block_printed c.tell_lines.ensures c.in-Ok.is c.requires c.show.ensures

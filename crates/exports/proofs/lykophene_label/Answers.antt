@@ -1,16 +1,19 @@
 -- `exports::lykophene_label` meets its contract: it tells what `labelling::label` answers.
-use mathlib.Core.Path.{sym, ◌∙◌, ap}
-use Rattle.exports.specs.Exported.{label_told}
+use mathlib.Core.Path.{◌≡◌, refl, sym, ◌∙◌, ap}
+use Rattle.std.specs.Prelude.{Result, Ok, Err}
+use Rattle.std.specs.Result.{result_and}
+use Rattle.frames.specs.declared.Refusal.{Refusal}
+use Rattle.exports.specs.Exported.{line_told, label_told}
 use Rattle.exports.proofs.lykophene_label.Goals as goal
 
-pub returns-in-Done : goal.returns-in-Done
-unfolding label_told
-returns-in-Done c =
-    let e = c.label-answer.ensures in
-    record { answer = c.done.ensures ∙ sym (ap label_told c.in-Done.is) ∙ ap label_told e.answer; kept = e.kept }
+-- labels written are told as a line of length 0
+no_line : (r : Result (Unit {0}) Refusal) → line_told (result_and r (Ok 0)) ≡ label_told r
+unfolding line_told label_told
+no_line (Ok u) = refl
+no_line (Err f) = refl
 
-pub returns-in-Refused : goal.returns-in-Refused
-unfolding label_told
-returns-in-Refused c =
-    let e = c.label-answer.ensures in
-    record { answer = c.refused.ensures ∙ sym (ap label_told c.in-Refused.is) ∙ ap label_told e.answer; kept = e.kept }
+pub returns : goal.returns
+returns c =
+    let told = c.from-3.ensures ∙ ap line_told c.and.ensures ∙ no_line c.label.result in
+    let l = rw (c.from.ensures, c.from-2.ensures) at c.label.ensures in
+    record { answer = told ∙ ap label_told l.answer; kept = l.kept }

@@ -3,8 +3,7 @@ use Rattle.std.specs.Prelude.{ℕ, ◌+◌, ◌-◌, ◌≡◌, cond, List, [], 
 use Rattle.texts.specs.Spelling.{join}
 use Rattle.frames.specs.Put.{line_at}
 use Rattle.results.specs.declared.block.Block.{Block}
-use Rattle.results.specs.declared.block.Block.TheVariants as block
-use Rattle.results.specs.Block.{fitting, in_front, lines_row}
+use Rattle.results.specs.Block.{fitting, in_front, block_of, lines_row}
 
 -- a line that has room, or nothing
 unfoldable pub if_fits : ℕ → List ℕ → List ℕ
@@ -22,5 +21,5 @@ pub record Begun (ls : List (List ℕ)) (first : ℕ) (out : List ℕ) : Type 0 
 
 -- All that fit stand in front of the row.
 pub record Ran (ls : List (List ℕ)) (out : List ℕ) (r : Block) (row : List ℕ) : Type 0 where
-  pub answer : r ≡ block.Lines (length (fitting (length out) ls)) (length (join (fitting (length out) ls)))
+  pub answer : r ≡ block_of (length (fitting (length out) ls)) (length (join (fitting (length out) ls)))
   pub kept : row ≡ lines_row ls out

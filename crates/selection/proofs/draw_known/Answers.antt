@@ -29,5 +29,5 @@ returns c =
     (c.count_marked.ensures
     ∙ ap (λ (row : List ℕ). length (roots row n.header.gates)) stands
     ∙ ap length (drawn_roots (network_of n) labels n.header.gates rest (network_size n.header n.row.now)))
-    c.output_delay.ensures
+    c.output_delay.ensures.delay
     stands

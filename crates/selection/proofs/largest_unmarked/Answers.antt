@@ -16,7 +16,7 @@ use Rattle.selection.proofs.largest_unmarked.Goals.{In-Some}
 
 pub loop-mark-init : goal.loop-mark-init
 unfolding largest_label unmarked upto keep largest
-loop-mark-init c = refl
+loop-mark-init c = (omega arith, refl)
 
 -- the pair of this turn
 turn : (c : In-Some) → let v = length c.loop-mark.yielded in
@@ -51,4 +51,7 @@ returns c =
     c.loop-mark.mark-iterator c.next.new.self _ (cc) (cc) c.loop-mark.yielded_by c.in-None.is c.next.ensures.steps in
     let all : length c.loop-mark.yielded ≡ gates =
     omega (arith, ended, length-take-le gates l.labels.now l.enough, few_gates _ _ l.network.holds) in
-    c.loop-mark.invariant ∙ ap (λ (k : ℕ). largest_label l.labels.now (unmarked c.args.row.now k)) all
+    record {
+      small = c.loop-mark.invariant.0;
+      largest = c.loop-mark.invariant.1 ∙ ap (λ (k : ℕ). largest_label l.labels.now (unmarked c.args.row.now k)) all;
+    }

@@ -8,4 +8,7 @@ pub returns : goal.returns
 unfolding unread
 returns c =
     let l = c.args.labelled.now in
-    rw (c.largest_unmarked.ensures, c.reads.ensures) (sym (delay_is _ _ l.network.holds l.labels.now))
+    record {
+      small = c.largest_unmarked.ensures.small;
+      delay = rw (c.largest_unmarked.ensures.largest, c.reads.ensures) (sym (delay_is _ _ l.network.holds l.labels.now));
+    }

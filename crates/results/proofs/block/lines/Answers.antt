@@ -1,26 +1,27 @@
--- `results::block::lines` meets its contract: a refusal of the row is handed on, and of a network the lines are told.
-use Rattle.rows.proofs.Checked.{Known, check_network, check_else}
-use Rattle.results.proofs.Blocks.{block_refused, block_told}
+-- `results::block::lines` meets its contract: what refuses the rows is handed on, what the first line answers decides, and the
+-- others go behind it.
+use Rattle.std.proofs.lemmas.Result.{err_from_is_err_and}
+use Rattle.results.proofs.Roomy.{roomy}
+use Rattle.results.proofs.Blocks.{block_refused, block_told, first_refused, first_begun, first_ran}
 use Rattle.results.proofs.block.lines.Goals as goal
 
-pub returns-in_default : goal.returns-in_default
-returns-in_default c =
-    rw c.refusal.ensures
-    (block_refused _ _ _ _ (check_else c.args.header c.args.row.now _
-    c.check-read.ensures c.in_default.not-Network))
+pub returns-in_err-drawn : goal.returns-in_err-drawn
+returns-in_err-drawn c =
+    let p = err_from_is_err_and c.from_residual.result c.from_residual.ensures.1 in
+    rw (p.1, p.2) (block_refused _ _ _ _ _ c.in_err-drawn.ensures.refuses)
 
-pub known_lines-requires : goal.known_lines-requires
-known_lines-requires c =
-    let known : Known c.args.header c.in-Network.known c.args.row.now = check_network c.args.header c.args.row.now
-    (λ i. (c.type_inv.row i).fits)
-    c.check-read.ensures
-    c.in-Network.is in
-    (known).holds
+pub returns-in_err-first : goal.returns-in_err-first
+returns-in_err-first c =
+    let p = err_from_is_err_and c.from_residual-in_err-first.result c.from_residual-in_err-first.ensures.1 in
+    let (answered, labels, marks) = c.in_ok-drawn.ensures.found in
+    rw (p.1, p.2, ← labels, ← marks)
+    (block_told _ _ answered (roomy c.in_ok-drawn.drawn) (first_refused _ _ _ c.args.index c.known_line.ensures c.in_err-first.was))
+
+pub lines_behind-requires : goal.lines_behind-requires
+lines_behind-requires c = first_begun _ _ _ c.args.index c.known_line.ensures c.in_ok-first.was
 
 pub returns : goal.returns
 returns c =
-    let known : Known c.args.header c.in-Network.known c.args.row.now = check_network c.args.header c.args.row.now
-    (λ i. (c.type_inv.row i).fits)
-    c.check-read.ensures
-    c.in-Network.is in
-    block_told (known).answered c.known_lines.ensures
+    let (answered, labels, marks) = c.in_ok-drawn.ensures.found in
+    rw (← labels, ← marks)
+    (block_told _ _ answered (roomy c.in_ok-drawn.drawn) (first_ran _ _ _ c.args.index c.known_line.ensures c.in_ok-first.was c.lines_behind.ensures))

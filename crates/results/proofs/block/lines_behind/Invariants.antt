@@ -2,13 +2,13 @@
 -- the row, and the next one behind them.
 use Prim.Native.Nat.{◌-◌}
 use lib.ListN.{length, drop}
-use Rattle.rows.specs.Row.{network_in}
+use Rattle.rows.specs.Found.{network_of}
 use Rattle.results.specs.Block.{drawn_lines, fitting}
 use Rattle.results.proofs.Fitting.{Running}
 use Rattle.results.proofs.block.lines_behind.Given as goal
 
 abbrev pub invariant-loop-length : goal.invariant-loop-length
-invariant-loop-length l = Running (drop l.index (drawn_lines (network_in l.header l.row) l.labels l.marks)) l.initial.out l.out l.length l.at l.count
+invariant-loop-length l = Running (drop l.index (drawn_lines (network_of l.drawn.labelled.network) l.drawn.labelled.labels.now l.drawn.marks.now)) l.initial.out l.out l.length l.at l.count
 
 abbrev pub decreases-loop-length : goal.decreases-loop-length
-decreases-loop-length l = length (fitting (length l.initial.out) (drop l.index (drawn_lines (network_in l.header l.row) l.labels l.marks))) - l.count
+decreases-loop-length l = length (fitting (length l.initial.out) (drop l.index (drawn_lines (network_of l.drawn.labelled.network) l.drawn.labelled.labels.now l.drawn.marks.now))) - l.count

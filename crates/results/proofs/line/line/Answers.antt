@@ -1,26 +1,15 @@
--- `results::line::line` meets its contract: a refusal of the row is handed on, and of a network the line is told.
-use Rattle.rows.proofs.Checked.{Known, check_network, check_else}
+-- `results::line::line` meets its contract: what refuses the rows is handed on, and of what they hold the line is told.
+use Rattle.std.proofs.lemmas.Result.{err_from_is_err_and}
+use Rattle.results.proofs.Roomy.{roomy}
 use Rattle.results.proofs.Answered.{told_refused, told_told}
 use Rattle.results.proofs.line.line.Goals as goal
 
-pub returns-in_default : goal.returns-in_default
-returns-in_default c =
-    rw c.refusal.ensures
-    (told_refused _ _ _ _ (check_else c.args.header c.args.row.now _
-    c.check-read.ensures c.in_default.not-Network))
-
-pub known_line-requires : goal.known_line-requires
-known_line-requires c =
-    let known : Known c.args.header c.in-Network.known c.args.row.now = check_network c.args.header c.args.row.now
-    (λ i. (c.type_inv.row i).fits)
-    c.check-read.ensures
-    c.in-Network.is in
-    (known).holds
+pub returns-in_err-drawn : goal.returns-in_err-drawn
+returns-in_err-drawn c =
+    let p = err_from_is_err_and c.from_residual.result c.from_residual.ensures.1 in
+    rw (p.1, p.2) (told_refused _ _ _ _ _ c.in_err-drawn.ensures.refuses)
 
 pub returns : goal.returns
 returns c =
-    let known : Known c.args.header c.in-Network.known c.args.row.now = check_network c.args.header c.args.row.now
-    (λ i. (c.type_inv.row i).fits)
-    c.check-read.ensures
-    c.in-Network.is in
-    told_told (known).answered c.known_line.ensures
+    let (answered, labels, marks) = c.in_ok-drawn.ensures.found in
+    rw (← labels, ← marks) (told_told _ _ answered (roomy c.in_ok-drawn.drawn) c.known_line.ensures)

@@ -6,6 +6,7 @@ use native.Mathlib.Omega.{arith}
 use Rattle.frames.specs.Refusal.{at_column}
 use Rattle.frames.specs.Digits.{word_bytes}
 use Rattle.results.specs.Result.{refusal_bytes}
+use Rattle.frames.proofs.Puts.{word_be, long_be}
 use Rattle.results.proofs.ResultLines.{Laid, short_line, laid_line, four_parts, refusal_wraps}
 use Rattle.results.proofs.line.refusal_line.Goals as goal
 
@@ -17,12 +18,12 @@ returns-then-out-lt13 c =
 pub returns : goal.returns
 unfolding refusal_bytes word_bytes
 returns c =
-    let laid : Laid ((let told = c.args.refusal in refusal_bytes (at_column told.number (told.line % 65_536) (told.column % 65_536)))) c.args.out.now c.put_word-at-2.result c.put_word-at-2.new.out = let told = c.args.refusal in
+    let laid : Laid ((let told = c.args.refusal in refusal_bytes (at_column told.number (told.line % 65_536) (told.column % 65_536)))) c.args.out.now c.put-at-4.result c.put-at-4.new.out = let told = c.args.refusal in
     four_parts 0x1E (told.number ∷ []) (word_bytes (told.line % 65_536)) (word_bytes (told.column % 65_536))
     (omega (arith, c.if-out-lt13.false))
-    c.put_byte-at.ensures
-    c.put_byte-at-2.ensures
-    c.put_word-at.ensures
-    c.put_word-at-2.ensures in
+    c.put-at.ensures
+    c.put-at-2.ensures
+    (rw (c.to_be_bytes.ensures, word_be) at c.put-at-3.ensures)
+    (rw (c.to_be_bytes-2.ensures, word_be) at c.put-at-4.ensures) in
     rw (← refusal_wraps c.args.refusal)
     (laid_line (laid) c.feed.ensures)
