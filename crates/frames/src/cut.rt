@@ -20,11 +20,13 @@ use units::{Cells, FanInCount, GateNumber, Ticks};
 // The line feed, 0A.
 const LINE_FEED: u8 = 10;
 
-// The type of a header, of a gate and of an end.
+// The type of a header.
 const HEADER_TYPE: u64 = 0x01;
 
+// The type of a gate.
 const GATE_TYPE: u64 = 0x02;
 
+// The type of an end.
 const END_TYPE: u64 = 0x0F;
 
 // Digits of a whole header: two for its type, eight for M and four for D.

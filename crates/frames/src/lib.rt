@@ -7,15 +7,11 @@
 // has to be refused before its line is.
 #![tactic(auto)]
 
-ghost use Rattle.std.specs.Prelude.{◌≡◌, ◌+◌, ◌^◌, ◌≤◌, ◌<◌, length, drop};
-ghost use Rattle.std.proofs.Math.Option.{none};
-ghost use Rattle.std.proofs.Math.Seq.{slice};
-ghost use Rattle.frames.specs.Text.{digit, digits_before, bytes, words};
-ghost use Rattle.frames.specs.Table.{rising_from};
-ghost use Rattle.frames.specs.Frames.{judged, line_read, digit_at, byte_from, word_from, fan_in_from};
+ghost use Rattle.std.specs.Prelude.{◌≡◌, ◌+◌, ◌^◌, ◌<◌};
+ghost use Rattle.frames.specs.Text.{digit};
+ghost use Rattle.frames.specs.Frames.{line_read, digit_at, byte_from, word_from, fan_in_from};
 ghost use Rattle.frames.specs.steps.Cut.{long_from};
 ghost use Rattle.frames.specs.Refusal.{at_column, at_line, at_no_line, no_room};
-ghost use Rattle.frames.specs.declared.Place.TheVariants.{Opening, AfterGates};
 
 use cut::Cut;
 use units::{Cells, FanInCount, Ticks};
@@ -156,6 +152,7 @@ fn digit_at(text: &[u8], k: usize) -> u64
     digit(text.get(k).copied().unwrap_or(0)) as u64
 }
 
+// Two, four and eight digits each have a function, as each has a definition: a loop over digits needs a power of 16 for its bound.
 // The byte that two digits spell.
 fn byte_at(text: &[u8], k: usize) -> u64
     requires { k + 2 < 2 ^ 64 }

@@ -18,7 +18,7 @@ returns-in_err-count c =
     let told : c.in_err-count.field-0.0 ≡ at_line 4 c.args.self.now.line = grind arith in
     let p = err_from_is_err_and c.from_residual.result c.from_residual.ensures.1 in
     rw (p.1, p.2)
-    (gate_4_count _ _ _ _ c.args.self.now.formed c.requires told (omega (arith, counted_above _ (sym c.new.ensures ∙ above), c.byte_at-fan_ins.ensures)))
+    (gate_4_count _ _ _ _ c.args.self.now.formed c.requires told (omega (arith, counted_above c.byte_at-fan_ins.result (sym c.new.ensures ∙ above), c.byte_at-fan_ins.ensures)))
 
 pub returns-then-self-fan_ins : goal.returns-then-self-fan_ins
 returns-then-self-fan_ins c =
@@ -31,16 +31,16 @@ returns-in_err-gate c =
     let told : c.in_err-gate.field-0.0 ≡ at_line 5 c.args.self.now.line = grind arith in
     let p = err_from_is_err_and c.from_residual-in_err-gate.result c.from_residual-in_err-gate.ensures.1 in
     rw (p.1, p.2)
-    (gate_5 _ _ _ _ c.args.self.now.formed c.requires (omega (arith, counted_made _ _ (sym c.new.ensures ∙ made))) (omega arith) told
-    (numbered_above _ (sym c.new-2.ensures ∙ above)))
+    (gate_5 _ _ _ _ c.args.self.now.formed c.requires (omega (arith, counted_made c.byte_at-fan_ins.result _ (sym c.new.ensures ∙ made))) (omega arith) told
+    (numbered_above c.args.gates (sym c.new-2.ensures ∙ above)))
 
 pub returns-then-not-rising : goal.returns-then-not-rising
 returns-then-not-rising c =
     let ds = c.args.self.now.digits.now in
     let count : c.new.result ≡ Some c.in_ok-count.count = grind arith in
     let gate : c.new-2.result ≡ Some c.in_ok-gate.gate = grind arith in
-    let numbered = numbered_made _ _ (sym c.new-2.ensures ∙ gate) in
-    gate_6 _ _ _ _ c.args.self.now.formed c.requires (omega (arith, counted_made _ _ (sym c.new.ensures ∙ count))) (omega arith) numbered.0
+    let numbered = numbered_made c.args.gates _ (sym c.new-2.ensures ∙ gate) in
+    gate_6 _ _ _ _ c.args.self.now.formed c.requires (omega (arith, counted_made c.byte_at-fan_ins.result _ (sym c.new.ensures ∙ count))) (omega arith) numbered.0
     c.at_line-then-not-rising.ensures
     (rw (rest_whole ds 12, numbered.1) at (sym c.rising.ensures ∙ c.if-not-rising.true))
 
@@ -49,14 +49,14 @@ returns-in_err-weight c =
     let above : c.weight.result ≡ None = grind arith in
     absurd
     (omega
-    (arith, weighed_above _ (sym c.weight.ensures ∙ above), weight_most (formed _ c.args.self.now.formed) (omega arith), c.word_at.ensures))
+    (arith, weighed_above c.word_at.result (sym c.weight.ensures ∙ above), weight_most (formed _ c.args.self.now.formed) (omega arith), c.word_at.ensures))
 
 pub returns-in_err-delay : goal.returns-in_err-delay
 returns-in_err-delay c =
     let above : c.delay.result ≡ None = grind arith in
     absurd
     (omega
-    (arith, delayed_above _ (sym c.delay.ensures ∙ above), delay_most (formed _ c.args.self.now.formed) (omega arith), c.word_at-2.ensures))
+    (arith, delayed_above c.word_at-2.result (sym c.delay.ensures ∙ above), delay_most (formed _ c.args.self.now.formed) (omega arith), c.word_at-2.ensures))
 
 pub returns : goal.returns
 returns c =
@@ -65,10 +65,10 @@ returns c =
     let gate : c.new-2.result ≡ Some c.in_ok-gate.gate = grind arith in
     let weight : c.weight.result ≡ Some c.in_ok-weight.weight = grind arith in
     let delay : c.delay.result ≡ Some c.in_ok-delay.delay = grind arith in
-    let counted = counted_made _ _ (sym c.new.ensures ∙ count) in
-    let numbered = numbered_made _ _ (sym c.new-2.ensures ∙ gate) in
+    let counted = counted_made c.byte_at-fan_ins.result _ (sym c.new.ensures ∙ count) in
+    let numbered = numbered_made c.args.gates _ (sym c.new-2.ensures ∙ gate) in
     gate_read _ _ _ _ c.args.self.now.formed c.requires (omega (arith, counted)) (omega arith) numbered.0
-    ((weighed_made _ _ (sym c.weight.ensures ∙ weight)).1 ∙ c.word_at.ensures)
-    ((delayed_made _ _ (sym c.delay.ensures ∙ delay)).1 ∙ c.word_at-2.ensures)
+    ((weighed_made c.word_at.result _ (sym c.weight.ensures ∙ weight)).1 ∙ c.word_at.ensures)
+    ((delayed_made c.word_at-2.result _ (sym c.delay.ensures ∙ delay)).1 ∙ c.word_at-2.ensures)
     (counted.1 ∙ c.byte_at-fan_ins.ensures)
     (rw (rest_whole ds 12, numbered.1) at (sym c.rising.ensures ∙ c.if-not-rising.false))

@@ -18,11 +18,11 @@ returns-in_err-hop c =
     let above : c.delay.result ≡ None = grind arith in
     absurd
     (omega
-    (arith, delayed_above _ (sym c.delay.ensures ∙ above), hop_most (formed _ c.args.self.now.formed) c.if-self-ne-HEADER_DIGITS.false, c.word_at.ensures))
+    (arith, delayed_above c.word_at.result (sym c.delay.ensures ∙ above), hop_most (formed _ c.args.self.now.formed) c.if-self-ne-HEADER_DIGITS.false, c.word_at.ensures))
 
 pub returns : goal.returns
 returns c =
     let made : c.delay.result ≡ Some c.in_ok-hop.hop = grind arith in
     header_read _ _ _ c.args.self.now.formed c.requires c.long_at.ensures
-    ((delayed_made _ _ (sym c.delay.ensures ∙ made)).1 ∙ c.word_at.ensures)
+    ((delayed_made c.word_at.result _ (sym c.delay.ensures ∙ made)).1 ∙ c.word_at.ensures)
     c.if-self-ne-HEADER_DIGITS.false
