@@ -1,13 +1,13 @@
 -- The bytes, words and longs of a line are those that its digits spell in the text: byte i stands at digits 2i and 2i + 1.
-use Prim.Native.Nat.{ℕ, zero, suc, ◌+◌, ◌*◌, ◌/◌, ◌%◌, ◌≤◌, ◌<◌}
-use mathlib.Core.Path.{◌≡◌, refl, sym, ap, ap₂, ◌∙◌}
+use Prim.Native.Nat.{ℕ, zero, suc, ◌+◌, ◌*◌, ◌/◌, ◌%◌, ◌<◌}
+use mathlib.Core.Path.{◌≡◌, refl, ap, ap₂, ◌∙◌}
 use mathlib.Core.List.{List, [], ◌∷◌}
 use native.Mathlib.Omega.{arith}
 use lib.ListN.{length, get_or, drop, take}
-use lib.Seq.{slice, length-slice, get_or-drop, get_or-take}
+use lib.Seq.{slice, get_or-drop, get_or-take}
 use lib.Dec.{eqb}
 use Rattle.frames.specs.Text.{digit, even, bytes, word_at, long_at, words}
-use Rattle.frames.specs.Frames.{byte_from, word_from}
+use Rattle.frames.specs.Frames.{digit_at, byte_from, word_from}
 use Rattle.frames.specs.steps.Cut.{long_from}
 
 pub length_bytes : (ds : List ℕ) → length (bytes ds) ≡ length ds / 2
@@ -64,31 +64,38 @@ word_here (a ∷ b ∷ bs) (suc i) zero e h = absurd (omega arith)
 word_here (a ∷ b ∷ bs) (suc i) (suc zero) e h = absurd (omega arith)
 word_here (a ∷ b ∷ bs) (suc i) (suc (suc j)) e h = word_here bs i j (omega arith) (omega arith)
 
--- What stands at a place of a line stands in the text.
-slice_at : (text : List ℕ) (at end k : ℕ) → at + k < end → get_or (slice at end text) k 0 ≡ get_or text (at + k) 0
-slice_at text at end k h = get_or-drop at (take end text) k 0 ∙ get_or-take end text (at + k) 0 h
-
-byte_is : (text : List ℕ) (k : ℕ) → 16 * digit (get_or text k 0) + digit (get_or text (k + 1) 0) ≡ byte_from text k
+byte_is : (ds : List ℕ) (k : ℕ) → 16 * digit (get_or ds k 0) + digit (get_or ds (k + 1) 0) ≡ byte_from ds k
 unfolding byte_from
-byte_is text k = refl
+byte_is ds k = refl
 
-module _ (text : List ℕ) (at end : ℕ) (fits : end ≤ length text) where
-  pub line_byte : (i k : ℕ) → k ≡ at + 2 * i → k + 1 < end → get_or (bytes (slice at end text)) i 0 ≡ byte_from text k
+module _ (ds : List ℕ) where
+  pub line_byte : (i k : ℕ) → k ≡ 2 * i → k + 1 < length ds → get_or (bytes ds) i 0 ≡ byte_from ds k
   line_byte i k e h =
-      let left : get_or (slice at end text) (2 * i) 0 ≡ get_or text k 0 =
-      slice_at text at end (2 * i) (omega arith) ∙ ap (λ n. get_or text n 0) (sym e) in
-      let right : get_or (slice at end text) (suc (2 * i)) 0 ≡ get_or text (k + 1) 0 =
-      slice_at text at end (suc (2 * i)) (omega arith) ∙ ap (λ n. get_or text n 0) (omega arith) in
-      byte_here (slice at end text) i (2 * i) refl (omega (arith, length-slice at end text fits))
-      ∙ ap₂ (λ x y. 16 * digit x + digit y) left right
-      ∙ byte_is text k
+      let next : suc k ≡ k + 1 = omega arith in
+      byte_here ds i k e (omega arith) ∙ ap (λ n. 16 * digit (get_or ds k 0) + digit (get_or ds n 0)) next ∙ byte_is ds k
 
-  pub line_word : (i k : ℕ) → k ≡ at + 2 * i → k + 3 < end → word_at (bytes (slice at end text)) i ≡ word_from text k
+  pub line_word : (i k : ℕ) → k ≡ 2 * i → k + 3 < length ds → word_at (bytes ds) i ≡ word_from ds k
   unfolding word_at word_from
   line_word i k e h =
       ap₂ (λ x y. 256 * x + y) (line_byte i k e (omega arith)) (line_byte (i + 1) (k + 2) (omega arith) (omega arith))
 
-  pub line_long : (i k : ℕ) → k ≡ at + 2 * i → k + 7 < end → long_at (bytes (slice at end text)) i ≡ long_from text k
+  pub line_long : (i k : ℕ) → k ≡ 2 * i → k + 7 < length ds → long_at (bytes ds) i ≡ long_from ds k
   unfolding long_at long_from
   line_long i k e h =
       ap₂ (λ x y. 65_536 * x + y) (line_word i k e (omega arith)) (line_word (i + 2) (k + 4) (omega arith) (omega arith))
+
+-- What stands in a line that is cut out of the text stands in the text.
+module _ (text : List ℕ) (at end : ℕ) where
+  digit_cut : (k : ℕ) → at + k < end → digit_at (slice at end text) k ≡ digit_at text (at + k)
+  unfolding digit_at
+  digit_cut k h = ap digit (get_or-drop at (take end text) k 0 ∙ get_or-take end text (at + k) 0 h)
+
+  byte_cut : (k : ℕ) → at + k + 1 < end → byte_from (slice at end text) k ≡ byte_from text (at + k)
+  unfolding byte_from
+  byte_cut k h =
+      ap₂ (λ x y. 16 * x + y) (digit_cut k (omega arith)) (digit_cut (k + 1) (omega arith) ∙ ap (digit_at text) (omega arith))
+
+  pub word_cut : (k : ℕ) → at + k + 3 < end → word_from (slice at end text) k ≡ word_from text (at + k)
+  unfolding word_from
+  word_cut k h =
+      ap₂ (λ x y. 256 * x + y) (byte_cut k (omega arith)) (byte_cut (k + 2) (omega arith) ∙ ap (byte_from text) (omega arith))

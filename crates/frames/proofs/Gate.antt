@@ -1,13 +1,12 @@
--- What a well-formed line of type 02 answers after the header and so many gates, in the words of the code.
-use Prim.Native.Nat.{ℕ, ◌+◌, ◌*◌, ◌-◌, ◌≤◌, ◌<◌}
+-- What a well-formed line of type 02 answers after the header and so many gates, in the words of the code: the numbers that its digits
+-- spell.
+use Prim.Native.Nat.{ℕ, ◌+◌, ◌*◌, ◌≤◌, ◌<◌}
 use mathlib.Core.Path.{◌≡◌, sym, ap, ap₂, ◌∙◌}
 use mathlib.Core.Bool.{true, false, not, ◌||◌, or-true}
-use mathlib.Core.List.{List}
 use mathlib.Core.Option.{none}
 use native.Mathlib.Omega.{arith}
 use native.Mathlib.Decide.{dec_lt}
-use lib.ListN.{length}
-use lib.Seq.{slice}
+use lib.ListN.{length, drop}
 use lib.Dec.{ltb, leb, eqb}
 use borrow.Author.Tests.{lt-ltb, le-ltb, le-leb, lt-leb, eq-eqb, ne_eqb}
 use Rattle.model.specs.Ceilings.{most_gates, most_fanins}
@@ -21,15 +20,15 @@ use Rattle.frames.specs.declared.LineRead.TheVariants.{Gate}
 use Rattle.frames.specs.Refusal.{at_line}
 use Rattle.frames.specs.Text.{Line, bytes, words}
 use Rattle.frames.specs.Table.{misplaced, wrong_length, one_too_many, unordered, miscounted, no_gates, rising_from, kind, frame_length, gate_count, gate_fanins, gate_of}
-use Rattle.frames.specs.Frames.{frame, judged, byte_from, word_from}
-use Rattle.frames.specs.steps.Cut.{line_from, form_fault}
+use Rattle.frames.specs.Frames.{frame, byte_from, word_from}
+use Rattle.frames.specs.steps.Cut.{form_fault, answer}
 use Rattle.frames.proofs.Formed.{Formed, formed}
-use Rattle.frames.proofs.Rows.{judged_4, judged_5, judged_6, judged_frame}
-use Rattle.frames.proofs.OfLine.{kind_is, length_is, next_is, count_is, weight_is, delay_is, fanins_are}
-use Rattle.frames.proofs.AfterHeader.{gates_type}
+use Rattle.frames.proofs.Rows.{answer_4, answer_5, answer_6, answer_frame}
+use Rattle.frames.proofs.OfLine.{kind_is, length_is, count_is, weight_is, delay_is, fanins_are}
+use Rattle.frames.proofs.Misplaced.{gates_type}
 
 -- Gates of the same numbers are the same.
-pub same_gate : {w w' d d' k k' : ℕ} (next : ℕ) → w ≡ w' → d ≡ d' → k ≡ k'
+same_gate : {w w' d d' k k' : ℕ} (next : ℕ) → w ≡ w' → d ≡ d' → k ≡ k'
     → ◌≡◌ {A = Result LineRead Refusal} (Ok (Gate (cells w) (ticks d) (record { 0 = k }) next)) (Ok (Gate (cells w') (ticks d') (record { 0 = k' }) next))
 same_gate next p q r = λ i. Ok (Gate (cells (p i)) (ticks (q i)) (record { 0 = r i }) next)
 
@@ -64,89 +63,75 @@ module _ (g : ℕ) (l : Line) (is : kind l ≡ 0x02) where
   unfolding frame
   gate_frame next = rw is
 
-module _ (text : List ℕ) (at end gates line : ℕ) (two : form_fault (line_from text at end) ≡ none) where
-  form : Formed text at end
-  form = formed text at end two
+module _ (next gates line : ℕ) (l : Line) (two : form_fault l ≡ none) (is : byte_from l.digits 0 ≡ 0x02) where
+  form : Formed l
+  form = formed l two
 
-  module _ (is : byte_from text at ≡ 0x02) where
-    typed : kind (line_from text at end) ≡ 0x02
-    typed = kind_is form ∙ is
+  typed : kind l ≡ 0x02
+  typed = kind_is form ∙ is
 
-    -- A line too short for a count has a wrong length, whatever stands where the count would.
-    short : end - at < 12 → wrong_length (AfterGates gates) (line_from text at end) ≡ true
-    short h =
-        let l = line_from text at end in
+  -- A line too short for a count has a wrong length, whatever stands where the count would.
+  short : length l.digits < 12 → wrong_length (AfterGates gates) l ≡ true
+  short h =
+      gate_length (AfterGates gates) l typed
+      ∙ ap (λ t. ltb most_fanins (gate_count l) || not t) (ne_eqb (frame_length l) (6 + 2 * gate_count l) (λ e. omega (arith, length_is form, form)))
+      ∙ or-true (ltb most_fanins (gate_count l))
+
+  told_4 : {f : Refusal} → f ≡ at_line 4 line → (12 ≤ length l.digits → wrong_length (AfterGates gates) l ≡ true)
+      → Err f ≡ answer next (AfterGates gates) line l
+  told_4 told h =
+      let four : wrong_length (AfterGates gates) l ≡ true = elim (dec_lt (length l.digits) 12) [ yes s ↦ short s | no s ↦ h (omega arith) ] in
+      ap (λ r. Err r) told ∙ sym (answer_4 next (AfterGates gates) line l two (gate_placed gates l typed) four)
+
+  pub gate_4_count : {f : Refusal} → f ≡ at_line 4 line → most_fanins < byte_from l.digits 10 → Err f ≡ answer next (AfterGates gates) line l
+  gate_4_count told h =
+      told_4 told
+      (λ long. gate_length (AfterGates gates) l typed
+      ∙ ap (λ t. t || not (eqb (frame_length l) (6 + 2 * gate_count l))) (lt-ltb most_fanins (gate_count l) (omega (arith, count_is form long))))
+
+  pub gate_4_length : {f : Refusal} → f ≡ at_line 4 line → (length l.digits ≡ 12 + 4 * byte_from l.digits 10 → ⊥)
+      → Err f ≡ answer next (AfterGates gates) line l
+  gate_4_length told h =
+      told_4 told
+      (λ long. gate_length (AfterGates gates) l typed
+      ∙ ap (λ t. ltb most_fanins (gate_count l) || not t)
+      (ne_eqb (frame_length l) (6 + 2 * gate_count l) (λ e. h (omega (arith, length_is form, count_is form long, form))))
+      ∙ or-true (ltb most_fanins (gate_count l)))
+
+  module _ (few : byte_from l.digits 10 ≤ most_fanins) (long : length l.digits ≡ 12 + 4 * byte_from l.digits 10) where
+    counted : gate_count l ≡ byte_from l.digits 10
+    counted = count_is form (omega arith)
+
+    four : wrong_length (AfterGates gates) l ≡ false
+    four =
         gate_length (AfterGates gates) l typed
-        ∙ ap (λ t. ltb most_fanins (gate_count l) || not t) (ne_eqb (frame_length l) (6 + 2 * gate_count l) (λ e. omega (arith, length_is form, form)))
-        ∙ or-true (ltb most_fanins (gate_count l))
+        ∙ ap₂ (λ x y. x || not y) (le-ltb most_fanins (gate_count l) (omega (arith, counted)))
+        (eq-eqb (frame_length l) (6 + 2 * gate_count l) (omega (arith, length_is form, counted)))
 
-    wrong : (12 ≤ end - at → wrong_length (AfterGates gates) (line_from text at end) ≡ true)
-        → wrong_length (AfterGates gates) (line_from text at end) ≡ true
-    wrong h = elim (dec_lt (end - at) 12) [ yes s ↦ short s | no s ↦ h (omega arith) ]
+    pub gate_5 : {f : Refusal} → f ≡ at_line 5 line → most_gates ≤ gates → Err f ≡ answer next (AfterGates gates) line l
+    gate_5 told h =
+        ap (λ r. Err r) told
+        ∙ sym (answer_5 next (AfterGates gates) line l two (gate_placed gates l typed) four (gate_number gates l typed ∙ le-leb most_gates gates h))
 
-    told_4 : wrong_length (AfterGates gates) (line_from text at end) ≡ true
-        → Err (at_line 4 line) ≡ judged at (AfterGates gates) line (line_from text at end)
-    told_4 h =
-        let l = line_from text at end in
-        sym (judged_4 at (AfterGates gates) line l two (gate_placed gates l typed) h)
+    module _ (room : gates < most_gates) where
+      five : one_too_many (AfterGates gates) l ≡ false
+      five = gate_number gates l typed ∙ lt-leb most_gates gates room
 
-    pub gate_4_count : most_fanins < byte_from text (at + 10) → Err (at_line 4 line) ≡ judged at (AfterGates gates) line (line_from text at end)
-    gate_4_count h =
-        let l = line_from text at end in
-        told_4
-        (wrong
-        (λ long. gate_length (AfterGates gates) l typed
-        ∙ ap (λ t. t || not (eqb (frame_length l) (6 + 2 * gate_count l))) (lt-ltb most_fanins (gate_count l) (omega (arith, count_is form long)))))
+      ordered : unordered (AfterGates gates) l ≡ not (rising_from 0 gates (words (bytes (drop 12 l.digits))))
+      ordered = gate_order gates l typed ∙ ap (λ xs. not (rising_from 0 gates xs)) (fanins_are l)
 
-    pub gate_4_length : (end - at ≡ 12 + 4 * byte_from text (at + 10) → ⊥)
-        → Err (at_line 4 line) ≡ judged at (AfterGates gates) line (line_from text at end)
-    gate_4_length h =
-        let l = line_from text at end in
-        told_4
-        (wrong
-        (λ long. gate_length (AfterGates gates) l typed
-        ∙ ap (λ t. ltb most_fanins (gate_count l) || not t)
-        (ne_eqb (frame_length l) (6 + 2 * gate_count l) (λ e. h (omega (arith, length_is form, count_is form long, form))))
-        ∙ or-true (ltb most_fanins (gate_count l))))
+      pub gate_6 : {f : Refusal} → f ≡ at_line 6 line → rising_from 0 gates (words (bytes (drop 12 l.digits))) ≡ false
+          → Err f ≡ answer next (AfterGates gates) line l
+      gate_6 told h =
+          ap (λ r. Err r) told ∙ sym (answer_6 next (AfterGates gates) line l two (gate_placed gates l typed) four five (ordered ∙ ap not h))
 
-    module _ (few : byte_from text (at + 10) ≤ most_fanins) (long : end - at ≡ 12 + 4 * byte_from text (at + 10)) where
-      counted : gate_count (line_from text at end) ≡ byte_from text (at + 10)
-      counted = count_is form (omega arith)
-
-      four : wrong_length (AfterGates gates) (line_from text at end) ≡ false
-      four =
-          let l = line_from text at end in
-          gate_length (AfterGates gates) l typed
-          ∙ ap₂ (λ x y. x || not y) (le-ltb most_fanins (gate_count l) (omega (arith, counted)))
-          (eq-eqb (frame_length l) (6 + 2 * gate_count l) (omega (arith, length_is form, counted)))
-
-      pub gate_5 : most_gates ≤ gates → Err (at_line 5 line) ≡ judged at (AfterGates gates) line (line_from text at end)
-      gate_5 h =
-          let l = line_from text at end in
-          sym
-          (judged_5 at (AfterGates gates) line l two (gate_placed gates l typed) four (gate_number gates l typed ∙ le-leb most_gates gates h))
-
-      module _ (room : gates < most_gates) where
-        five : one_too_many (AfterGates gates) (line_from text at end) ≡ false
-        five = gate_number gates (line_from text at end) typed ∙ lt-leb most_gates gates room
-
-        ordered : unordered (AfterGates gates) (line_from text at end) ≡ not (rising_from 0 gates (words (bytes (slice (at + 12) end text))))
-        ordered = gate_order gates (line_from text at end) typed ∙ ap (λ xs. not (rising_from 0 gates xs)) (fanins_are text at end)
-
-        pub gate_6 : rising_from 0 gates (words (bytes (slice (at + 12) end text))) ≡ false
-            → Err (at_line 6 line) ≡ judged at (AfterGates gates) line (line_from text at end)
-        gate_6 h =
-            let l = line_from text at end in
-            sym (judged_6 at (AfterGates gates) line l two (gate_placed gates l typed) four five (ordered ∙ ap not h))
-
-        pub gate_read : rising_from 0 gates (words (bytes (slice (at + 12) end text))) ≡ true
-            → Ok (Gate (cells (word_from text (at + 2))) (ticks (word_from text (at + 6))) (record { 0 = byte_from text (at + 10) }) (end + 1))
-            ≡ judged at (AfterGates gates) line (line_from text at end)
-        gate_read h =
-            let l = line_from text at end in
-            let long_enough : 12 ≤ end - at = omega arith in
-            let read : judged at (AfterGates gates) line l ≡ Ok (frame l (at + length (slice at end text) + 1)) =
-            judged_frame at (AfterGates gates) line l two (gate_placed gates l typed) four five (ordered ∙ ap not h)
-            (gate_no_count gates l typed)
-            (gate_no_end gates l typed) in
-            simp (read, gate_frame gates l typed (end + 1), weight_is form long_enough, delay_is form long_enough, counted, next_is form)
+      pub gate_read : {weight delay count : ℕ} → weight ≡ word_from l.digits 2 → delay ≡ word_from l.digits 6 → count ≡ byte_from l.digits 10
+          → rising_from 0 gates (words (bytes (drop 12 l.digits))) ≡ true
+          → Ok (Gate (cells weight) (ticks delay) (record { 0 = count }) next) ≡ answer next (AfterGates gates) line l
+      gate_read w d k h =
+          let read : answer next (AfterGates gates) line l ≡ Ok (frame l next) =
+          answer_frame next (AfterGates gates) line l two (gate_placed gates l typed) four five (ordered ∙ ap not h)
+          (gate_no_count gates l typed)
+          (gate_no_end gates l typed) in
+          same_gate next (w ∙ sym (weight_is form (omega arith))) (d ∙ sym (delay_is form (omega arith))) (k ∙ sym counted)
+          ∙ sym (read ∙ ap (λ r. Ok r) (gate_frame gates l typed next))

@@ -11,11 +11,12 @@ pub mod Rows
 pub mod Formed
 pub mod FormExactly
 pub mod OfLine
+pub mod Misplaced
 pub mod Header
-pub mod AfterHeader
 pub mod Gate
 pub mod End
 pub mod Lines
+pub mod CutOut
 pub mod Unique
 pub mod FanIns
 pub mod Told

@@ -1,12 +1,12 @@
 -- The first line of a text is what stands up to its line feed.
-use Prim.Native.Nat.{ℕ, zero, suc, ◌+◌, ◌≤◌, ◌<◌}
+use Prim.Native.Nat.{ℕ, zero, suc, ◌+◌, ◌-◌, ◌≤◌, ◌<◌}
 use mathlib.Core.Path.{◌≡◌, refl, sym, ap, ap₂, ◌∙◌}
 use mathlib.Core.Bool.{Bool, true, false, cond}
 use mathlib.Core.List.{List, [], ◌∷◌}
 use native.Mathlib.Omega.{arith}
 use native.Mathlib.Decide.{dec_lt}
 use lib.ListN.{length, drop, take, length-drop, drop_of_length-le}
-use lib.Seq.{slice, take-nil, drop-drop}
+use lib.Seq.{slice, take-nil, take_all, drop-drop}
 use lib.Dec.{ltb, eqb, leb-suc-suc}
 use borrow.Author.Tests.{lt-ltb, le-ltb}
 use Rattle.frames.specs.declared.Place.{Place}
@@ -15,6 +15,10 @@ use Rattle.frames.specs.declared.LineRead.TheVariants.{Nothing}
 use Rattle.frames.specs.Text.{Line, line_feed, begin, lines}
 use Rattle.frames.specs.Frames.{judged, first_read, line_read}
 use Rattle.frames.specs.steps.Cut.{line_length, line_from}
+
+-- what is left of a list behind some of it, all of it
+pub rest_whole : (xs : List ℕ) (at : ℕ) → take (length xs - at) (drop at xs) ≡ drop at xs
+rest_whole xs at = take_all (length xs - at) (drop at xs) (omega (arith, length-drop at xs))
 
 pub length_most : (bs : List ℕ) → line_length bs ≤ length bs
 unfolding line_length
@@ -26,7 +30,7 @@ length_most (b ∷ bs) = by (eqb b line_feed) (length_most bs)
     by false h = omega arith
 
 -- the line of the first n bytes
-abbrev cut : List ℕ → ℕ → Line
+abbrev pub cut : List ℕ → ℕ → Line
 cut bs n = record { digits = take n bs; ended = ltb n (length bs) }
 
 -- one byte more in front
@@ -55,7 +59,7 @@ slice_cut (suc at) n m [] e = simp take-nil
 slice_cut (suc at) n zero (x ∷ text) e = absurd (omega arith)
 slice_cut (suc at) n (suc m) (x ∷ text) e = slice_cut at n m text (omega arith)
 
-lines_some : (bs : List ℕ) → 0 < length bs → lines bs ≡ cut bs (line_length bs) ∷ lines (drop (suc (line_length bs)) bs)
+pub lines_some : (bs : List ℕ) → 0 < length bs → lines bs ≡ cut bs (line_length bs) ∷ lines (drop (suc (line_length bs)) bs)
 lines_some [] h = absurd (omega arith)
 lines_some (b ∷ bs) h = lines_cut b bs
 

@@ -1,18 +1,15 @@
 -- The rule of the table, row by row: a line answers with the first row that is given, and is a frame where none is.
-use Prim.Native.Nat.{ℕ, ◌+◌}
+use Prim.Native.Nat.{ℕ}
 use mathlib.Core.Path.{◌≡◌, refl, sym, ◌∙◌}
 use mathlib.Core.Bool.{true, false, cond}
 use mathlib.Core.Option.{Option, none, some}
-use lib.ListN.{length}
 use Rattle.frames.specs.declared.Place.{Place}
-use Rattle.frames.specs.declared.Place.TheVariants.{Closed}
 use Rattle.std.specs.Prelude.{Ok, Err}
-use Rattle.frames.specs.declared.Refusal.{Refusal}
-use Rattle.frames.specs.Refusal.{at_line}
+use Rattle.frames.specs.Refusal.{at_column, at_line}
 use Rattle.frames.specs.Text.{Line}
-use Rattle.frames.specs.Table.{misplaced, wrong_length, one_too_many, unordered, miscounted, no_gates, frame_rows, first_given, fault}
-use Rattle.frames.specs.Frames.{frame, told, judged}
-use Rattle.frames.specs.steps.Cut.{form_told, form_found, form_fault}
+use Rattle.frames.specs.Table.{misplaced, wrong_length, one_too_many, unordered, miscounted, no_gates, frame_rows, first_given, fault, column}
+use Rattle.frames.specs.Frames.{frame, told}
+use Rattle.frames.specs.steps.Cut.{form_fault, answer}
 use Rattle.frames.proofs.Tests.{never, passed}
 use Rattle.frames.proofs.Fault.{or_else, form_first}
 
@@ -34,58 +31,48 @@ rows_are : (p : Place) (l : Line) → form_fault l ≡ none → fault p l ≡ ro
 unfolding or_else
 rows_are p l two = rows_then p l ∙ rw two
 
-judged_is : (at : ℕ) (p : Place) (line : ℕ) (l : Line) → form_fault l ≡ none
-    → judged at p line l ≡ told (rows p l) line l (frame l (at + length l.digits + 1))
-unfolding judged
-judged_is at p line l two = rw (rows_are p l two)
+answer_is : (next : ℕ) (p : Place) (line : ℕ) (l : Line) → form_fault l ≡ none → answer next p line l ≡ told (rows p l) line l (frame l next)
+unfolding answer
+answer_is next p line l two = rw (rows_are p l two)
 
-module _ (at : ℕ) (p : Place) (line : ℕ) (l : Line) where
-  pub judged_form : {f : Refusal} → form_found line l ≡ Err f → judged at p line l ≡ Err f
-  unfolding judged told form_found form_told or_else
-  judged_form {f} e = rw (rows_then p l) (by (form_fault l) e)
-    where
-      by : (o : Option ℕ) → form_told o line l ≡ Err f → told (or_else o (rows p l)) line l (frame l (at + length l.digits + 1)) ≡ Err f
-      by none e = never cc
-      by (some k) e = cc
+module _ (next : ℕ) (p : Place) (line : ℕ) (l : Line) where
+  pub answer_form : {k : ℕ} → form_fault l ≡ some k → answer next p line l ≡ Err (at_column k line (column k l))
+  unfolding answer told or_else
+  answer_form e = rw (rows_then p l, e)
 
   module _ (two : form_fault l ≡ none) where
-    pub judged_3 : misplaced p l ≡ true → judged at p line l ≡ Err (at_line 3 line)
+    pub answer_3 : misplaced p l ≡ true → answer next p line l ≡ Err (at_line 3 line)
     unfolding rows told
-    judged_3 three = rw (judged_is at p line l two) (simp three)
+    answer_3 three = rw (answer_is next p line l two) (simp three)
 
     module _ (three : misplaced p l ≡ false) where
-      pub judged_4 : wrong_length p l ≡ true → judged at p line l ≡ Err (at_line 4 line)
+      pub answer_4 : wrong_length p l ≡ true → answer next p line l ≡ Err (at_line 4 line)
       unfolding rows told
-      judged_4 four = rw (judged_is at p line l two) (simp (three, four))
+      answer_4 four = rw (answer_is next p line l two) (simp (three, four))
 
       module _ (four : wrong_length p l ≡ false) where
-        pub judged_5 : one_too_many p l ≡ true → judged at p line l ≡ Err (at_line 5 line)
+        pub answer_5 : one_too_many p l ≡ true → answer next p line l ≡ Err (at_line 5 line)
         unfolding rows told
-        judged_5 five = rw (judged_is at p line l two) (simp (three, four, five))
+        answer_5 five = rw (answer_is next p line l two) (simp (three, four, five))
 
         module _ (five : one_too_many p l ≡ false) where
-          pub judged_6 : unordered p l ≡ true → judged at p line l ≡ Err (at_line 6 line)
+          pub answer_6 : unordered p l ≡ true → answer next p line l ≡ Err (at_line 6 line)
           unfolding rows told
-          judged_6 six = rw (judged_is at p line l two) (simp (three, four, five, six))
+          answer_6 six = rw (answer_is next p line l two) (simp (three, four, five, six))
 
           module _ (six : unordered p l ≡ false) where
-            pub judged_7 : miscounted p l ≡ true → judged at p line l ≡ Err (at_line 7 line)
+            pub answer_7 : miscounted p l ≡ true → answer next p line l ≡ Err (at_line 7 line)
             unfolding rows told
-            judged_7 seven = rw (judged_is at p line l two) (simp (three, four, five, six, seven))
+            answer_7 seven = rw (answer_is next p line l two) (simp (three, four, five, six, seven))
 
             module _ (seven : miscounted p l ≡ false) where
-              pub judged_8 : no_gates p l ≡ true → judged at p line l ≡ Err (at_line 8 line)
+              pub answer_8 : no_gates p l ≡ true → answer next p line l ≡ Err (at_line 8 line)
               unfolding rows told
-              judged_8 eight = rw (judged_is at p line l two) (simp (three, four, five, six, seven, eight))
+              answer_8 eight = rw (answer_is next p line l two) (simp (three, four, five, six, seven, eight))
 
-              pub judged_frame : no_gates p l ≡ false → judged at p line l ≡ Ok (frame l (at + length l.digits + 1))
+              pub answer_frame : no_gates p l ≡ false → answer next p line l ≡ Ok (frame l next)
               unfolding rows told
-              judged_frame eight = rw (judged_is at p line l two) (simp (three, four, five, six, seven, eight))
-
--- After the end frame no line is in its place.
-pub closed_3 : (at line : ℕ) (l : Line) → form_fault l ≡ none → judged at Closed line l ≡ Err (at_line 3 line)
-unfolding misplaced
-closed_3 at line l two = judged_3 at Closed line l two refl
+              answer_frame eight = rw (answer_is next p line l two) (simp (three, four, five, six, seven, eight))
 
 -- A line without fault is given by no row.
 pub record Faultless (p : Place) (l : Line) : Type 0 where

@@ -1,6 +1,6 @@
 -- What an answer of `read_line` tells its caller of the lines that are left: there is none; the first has this fault; or
 -- the first is this frame, without fault, and the others begin where the answer says.
-use Prim.Native.Nat.{ℕ, ◌+◌, ◌≤◌, ◌<◌}
+use Prim.Native.Nat.{ℕ, ◌+◌, ◌-◌, ◌≤◌, ◌<◌}
 use mathlib.Core.Path.{◌≡◌, refl, sym, ap, ◌∙◌}
 use mathlib.Core.Bool.{Bool, true, false, cond}
 use mathlib.Core.List.{List, [], ◌∷◌}
@@ -9,9 +9,9 @@ use mathlib.Core.Logic.{◌⊎◌, inl, inr, ⊎_elim}
 use native.Mathlib.Omega.{arith}
 use native.Mathlib.Decide.{dec_lt}
 use lib.ListN.{length, drop, drop_of_length-le}
-use lib.Seq.{slice}
+use lib.Seq.{slice, length-slice}
 use lib.Dec.{eqb}
-use borrow.Author.Tests.{eqb-true, eqb-false}
+use borrow.Author.Tests.{eqb-true, eqb-false, ltb-true}
 use Rattle.units.specs.Units.{cells, ticks}
 use Rattle.units.specs.declared.Cells.{Cells}
 use Rattle.units.specs.declared.Ticks.{Ticks}
@@ -29,7 +29,6 @@ use Rattle.frames.specs.steps.Cut.{line_from, line_length}
 use Rattle.frames.proofs.Tests.{never}
 use Rattle.frames.proofs.Formed.{formed}
 use Rattle.frames.proofs.Rows.{faultless}
-use Rattle.frames.proofs.OfLine.{next_is}
 use Rattle.frames.proofs.Lines.{lines_from, read_first, read_past}
 
 -- where the next line begins behind a frame
@@ -112,9 +111,11 @@ module _ (text : List ℕ) (at : ℕ) (p : Place) (line : ℕ) where
       let l = line_from text at end in
       let m = at + length (slice at end text) + 1 in
       let given = none_told (fault p l) line l (frame l m) r next (sym (read_first text at end h refl p line) ∙ e) n in
-      let form = formed text at end (faultless p l given.0).formed in
+      let form = formed l (faultless p l given.0).formed in
+      let ended : end < length text = ltb-true end (length text) form.ended in
+      let as_long : length l.digits ≡ end - at = length-slice at end text (omega arith) in
       let same : m ≡ next = cc (frame_next l m, ap next_of given.1) in
-      let behind : end + 1 ≡ next = sym (next_is form) ∙ same in
+      let behind : end + 1 ≡ next = omega (arith, form.begun) in
       record {
         line = l;
         first = lines_from text at end h refl ∙ ap (λ k. l ∷ lines (drop k text)) behind;

@@ -1,2 +1,3 @@
 -- What only the contracts of private functions cite.
 pub mod Cut
+pub mod CutOut
