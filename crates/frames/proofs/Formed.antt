@@ -92,4 +92,6 @@ module _ (l : Line) where
         form_24 h = rw (tests l, some_there l.digits begun, spelled, even_length l.digits, eq-eqb (length l.digits % 2) 0 whole, h)
 
         pub form_right : l.ended ≡ true → form_fault l ≡ none
-        form_right h = rw (tests l, some_there l.digits begun, spelled, even_length l.digits, eq-eqb (length l.digits % 2) 0 whole, h)
+        form_right h =
+            let evenly : even l.digits ≡ true = even_length l.digits ∙ eq-eqb (length l.digits % 2) 0 whole in
+            right_form l (record { begun = some_there l.digits begun; spelled = spelled; evenly = evenly; ended = h })

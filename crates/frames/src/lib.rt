@@ -1,8 +1,9 @@
 // One line of a text, in both directions: hexadecimal read into a frame, or the number of its refusal with its line; and,
 // in `put`, bytes and words written as digits.
 //
-// `read_line` finds the line that begins at a place of the text and answers by the table of refusal numbers: 21 to 24 for the
-// line's form, then by what stood before it 3 for its type, 4 for its length, 5 and 6 for a gate, 7 and 8 for the end.
+// `read_line` has the line that begins at a place of the text cut out by `cut`, and answers by the table of refusal numbers: 21
+// to 24 for the line's form, then by what stood before it 3 for its type, 4 for its length, 5 and 6 for a gate, 7 and 8 for the
+// end.
 // `fan_in` reads one fan-in of a gate line. Numbers are read with digits that are none counting 16, so that no number
 // has to be refused before its line is.
 #![tactic(auto)]

@@ -2,24 +2,11 @@
 use Prim.Native.Nat.{◌+◌, ◌*◌, ◌≤◌}
 use mathlib.Core.Path.{sym}
 use native.Mathlib.Omega.{arith}
-use borrow.Author.Tests.{ltb-true}
 use lib.ListN.{length}
 use Rattle.frames.specs.Frames.{fan_in_from}
 use Rattle.frames.proofs.Numbers.{word_most, word_past}
 use Rattle.frames.proofs.fan_in.Goals as goal
 use Rattle.frames.proofs.fan_in.Goals.{else-at-len-via-then-at-len+else-i-len, else-at-len-via-else-at-len}
-
-pub overflow_mul-i : goal.overflow_mul-i
-overflow_mul-i c =
-    omega (arith, ltb-true)
-
-pub overflow_add-at-then-i-len : goal.overflow_add-at-then-i-len
-overflow_add-at-then-i-len c =
-    omega (arith, ltb-true)
-
-pub word_at-requires : goal.word_at-requires
-word_at-requires c =
-    omega (arith, ltb-true)
 
 pub overflow_cast-result : goal.overflow_cast-result
 overflow_cast-result c =

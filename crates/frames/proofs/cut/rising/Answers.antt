@@ -6,12 +6,8 @@ use native.Mathlib.Omega.{arith}
 use lib.ListN.{length}
 use Rattle.frames.specs.Text.{bytes, words}
 use Rattle.frames.specs.Table.{rising_from}
-use Rattle.frames.proofs.Numbers.{word_most}
 use Rattle.frames.proofs.Walks.{rising_none, rising_more, rising_stops}
 use Rattle.frames.proofs.cut.rising.Goals as goal
-
-pub loop-fan_in-init : goal.loop-fan_in-init
-loop-fan_in-init c = (cc, ap (λ ds. rising_from 0 c.args.gate.0 (words (bytes ds))) cc)
 
 pub returns-then-x-least : goal.returns-then-x-least
 returns-then-x-least c =
@@ -22,9 +18,6 @@ returns-then-x-least c =
     sym (rising_stops c.in-Some.fan_in.now c.next.new.self.rest.now l.least c.args.gate.0 four c.word_at-x.ensures stops)
     ∙ ap (λ ds. rising_from l.least c.args.gate.0 (words (bytes ds))) (sym left)
     ∙ l.invariant.1
-
-pub overflow_add-least : goal.overflow_add-least
-overflow_add-least c = omega (arith, word_most c.in-Some.fan_in.now 0)
 
 pub loop-fan_in-preserved : goal.loop-fan_in-preserved
 loop-fan_in-preserved c =
