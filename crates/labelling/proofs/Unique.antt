@@ -11,7 +11,7 @@ use Rattle.rows.specs.declared.network.Network.{Network as Standing}
 use Rattle.units.specs.Outcome.{OneOutcome, OneContent}
 use Rattle.units.proofs.Unique.{same}
 use Rattle.labelling.specs.declared.labelled.Labelled.{Labelled}
-use Rattle.labelling.specs.WithLabels.{WithLabels}
+use Rattle.labelling.specs.WithLabels.{content, WithLabels}
 use Rattle.labelling.proofs.WithLabels.{unlabelled}
 use Rattle.labelling.proofs.label.Reads as label
 use Rattle.labelling.proofs.cluster.Reads as cluster
@@ -31,10 +31,6 @@ pub labelled_labelled_members_of_unique : OneOutcome labelled_members_of.Learnt 
 labelled_labelled_members_of_unique κs args r s exit exit' p q = (same p.many q.many, same p.row_is q.row_is)
 
 -- A network with labels is its header, its row and the row of labels.
-
-abbrev pub content : Result Labelled Refusal → Result (Header × List ℕ × List ℕ) Refusal
-content (Ok l) = Ok (l.network.header, l.network.row.now, l.labels.now)
-content (Err f) = Err f
 
 content_is : {n : Standing} {given : List ℕ} (r : Result Labelled Refusal) → WithLabels n given r
     → content r ≡ cond (ltb (length given) n.header.gates) (Err no_room) (Ok (n.header, n.row.now, given))

@@ -2,6 +2,7 @@
 use Rattle.std.specs.Prelude.{◌≡◌, cond, List, ℕ, length, ltb, Result, Ok, Err, IfOk}
 use Rattle.std.proofs.Math.Option.{Option, none, some}
 use Rattle.frames.specs.declared.Refusal.{Refusal}
+use Rattle.rows.specs.declared.Header.{Header}
 use Rattle.frames.specs.Refusal.{no_room}
 use Rattle.rows.specs.declared.network.Network.{Network as Standing}
 use Rattle.labelling.specs.declared.labelled.Labelled.{Labelled}
@@ -10,6 +11,11 @@ use Rattle.labelling.specs.declared.labelled.Labelled.{Labelled}
 abbrev pub refused_by : Result Labelled Refusal → Option Refusal
 refused_by (Ok l) = none
 refused_by (Err f) = some f
+
+-- all that is handed back: the header, the numbers of the row and the labels, or the refusal
+abbrev pub content : Result Labelled Refusal → Result (Header × List ℕ × List ℕ) Refusal
+content (Ok l) = Ok (l.network.header, l.network.row.now, l.labels.now)
+content (Err f) = Err f
 
 -- [R2] [O5] The network and the row of labels that were handed over, and 10 where the row has fewer places than there are gates.
 pub record WithLabels (n : Standing) (given : List ℕ) (r : Result Labelled Refusal) : Type 0 where

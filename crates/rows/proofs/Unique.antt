@@ -6,7 +6,7 @@ use Rattle.std.specs.Prelude.{Result, Ok, Err}
 use Rattle.frames.specs.declared.Refusal.{Refusal}
 use Rattle.rows.specs.declared.Header.{Header}
 use Rattle.rows.specs.declared.network.Network.{Network as Standing}
-use Rattle.rows.specs.Found.{NetworkFound}
+use Rattle.rows.specs.Found.{content, NetworkFound}
 use Rattle.rows.specs.Read.{checked}
 use Rattle.units.specs.Units.{cells, ticks}
 use Rattle.units.specs.Outcome.{OneOutcome, OneContent}
@@ -53,18 +53,14 @@ put_fan_in_unique κs args r s exit exit' p q = (refl, same p q)
 
 -- The network found is the header that is answered and the row that was handed over.
 
-abbrev pub content : (r : Result Standing Refusal) → Result Header Refusal × List ℕ
-content (Ok n) = (Ok n.header, n.row.now)
-content (Err f) = (Err f, [])
+abbrev with_row : Result Header Refusal → List ℕ → Result (Header × List ℕ) Refusal
+with_row (Ok h) row = Ok (h, row)
+with_row (Err f) row = Err f
 
-abbrev row_of : Result Header Refusal → List ℕ → List ℕ
-row_of (Ok h) row = row
-row_of (Err f) row = []
-
-content_is : {h : Header} {row : List ℕ} (r : Result Standing Refusal) → NetworkFound h row r
-    → content r ≡ (checked h row, row_of (checked h row) row)
-content_is {h} {row} (Ok n) p = ap (λ (x : List ℕ). (Ok n.header, x)) p.same ∙ ap (λ (a : Result Header Refusal). (a, row_of a row)) p.answer
-content_is {h} {row} (Err f) p = ap (λ (a : Result Header Refusal). (a, row_of a row)) p.answer
+content_is : {h : Header} {row : List ℕ} (r : Result Standing Refusal) → NetworkFound h row r → content r ≡ with_row (checked h row) row
+content_is {h} {row} (Ok n) p =
+    ap (λ (x : List ℕ). with_row (Ok n.header) x) p.same ∙ ap (λ (a : Result Header Refusal). with_row a row) p.answer
+content_is {h} {row} (Err f) p = ap (λ (a : Result Header Refusal). with_row a row) p.answer
 
 pub network_network_find_unique : OneContent network_find.Learnt (λ κs r. content r)
 network_network_find_unique κs args r s exit exit' p q = content_is r p ∙ sym (content_is s q)

@@ -16,6 +16,11 @@ abbrev pub header_found : Result Standing Refusal → Result Header Refusal
 header_found (Ok n) = Ok n.header
 header_found (Err f) = Err f
 
+-- all that is handed back: the header and the numbers of the row, or the refusal
+abbrev pub content : Result Standing Refusal → Result (Header × List ℕ) Refusal
+content (Ok n) = Ok (n.header, n.row.now)
+content (Err f) = Err f
+
 -- [R5] What `check` answers, and the row that was handed over.
 pub record NetworkFound (h : Header) (row : List ℕ) (r : Result Standing Refusal) : Type 0 where
   pub answer : header_found r ≡ checked h row
