@@ -73,14 +73,15 @@ fn look_gates(text: &[u8], first: usize, capacity: Cells, hop: Ticks) -> Result<
     };
     loop {
         let gates = seen.header.gates;
-        match frames::read_line(text, at, Place::AfterGates(gates), gates + 2)? {
-            LineRead::Gate { weight, next, .. } => {
-                seen = seen.with_gate(weight);
-                at = next;
-            }
-            LineRead::End { next } => return look_end(text, next, seen),
-            _ => return Err(Refusal::at_line(MISPLACED, gates + 2)),
-        }
+        let read = frames::read_line(text, at, Place::AfterGates(gates), gates + 2)?;
+        let LineRead::Gate { weight, next, .. } = read else {
+            let LineRead::End { next } = read else {
+                return Err(Refusal::at_line(MISPLACED, gates + 2));
+            };
+            return look_end(text, next, seen);
+        };
+        seen = seen.with_gate(weight);
+        at = next;
     }
 }
 
@@ -124,15 +125,18 @@ fn fill_row(text: &[u8], row: &mut [u16])
     };
     let mut at = first;
     let mut gates = 0;
-    while let Ok(
-        LineRead::Gate {
-            weight,
-            delay,
-            count,
-            next,
-        },
-    ) = frames::read_line(text, at, Place::AfterGates(gates), gates + 2)
-    {
+    loop {
+        let Ok(
+            LineRead::Gate {
+                weight,
+                delay,
+                count,
+                next,
+            },
+        ) = frames::read_line(text, at, Place::AfterGates(gates), gates + 2)
+        else {
+            return;
+        };
         rows::put_gate(row, gates, weight, delay, count);
         fill_fan_ins(text, at, count.0, row, gates);
         at = next;

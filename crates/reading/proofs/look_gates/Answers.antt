@@ -11,40 +11,40 @@ use Rattle.reading.proofs.LinesRead.{refused_there, gate_read, end_read, no_gate
 use Rattle.reading.proofs.Looking.{refusal_told, set_out, go_on}
 use Rattle.reading.proofs.look_gates.Goals as goal
 
-pub loop-weight-init : goal.loop-weight-init
-loop-weight-init c =
+pub loop-read-init : goal.loop-read-init
+loop-read-init c =
     set_out c.args.text.now c.args.first c.args.capacity c.args.hop
 
-pub returns-in_err-weight : goal.returns-in_err-weight
-returns-in_err-weight c =
-    let l = c.loop-weight.invariant in
+pub returns-in_err-read : goal.returns-in_err-read
+returns-in_err-read c =
+    let l = c.loop-read.invariant in
     let p = err_from_is_err_and c.from_residual.result c.from_residual.ensures.1 in
-    rw (p.1, p.2) (refusal_told (sym l.same ∙ refused_there _ _ _ _ (sym c.read_line.ensures) l.so_far c.in_err-weight.was))
+    rw (p.1, p.2) (refusal_told (sym l.same ∙ refused_there _ _ _ _ (sym c.read_line.ensures) l.so_far c.in_err-read.was))
 
 pub with_gate-seen-requires : goal.with_gate-seen-requires
 with_gate-seen-requires c =
-    (gate_read _ _ _ _ _ _ _ (sym c.read_line.ensures ∙ c.in_ok-weight.was ∙ ap Ok c.in-Gate.is)).fit.number
+    (gate_read _ _ _ _ _ _ _ (sym c.read_line.ensures ∙ c.in_ok-read.was ∙ ap Ok c.in-Gate.is)).fit.number
 
-pub loop-weight-smaller : goal.loop-weight-smaller
-loop-weight-smaller c =
-    let g = gate_read _ _ _ _ _ _ _ (sym c.read_line.ensures ∙ c.in_ok-weight.was ∙ ap Ok c.in-Gate.is) in
+pub loop-read-smaller : goal.loop-read-smaller
+loop-read-smaller c =
+    let g = gate_read _ _ _ _ _ _ _ (sym c.read_line.ensures ∙ c.in_ok-read.was ∙ ap Ok c.in-Gate.is) in
     omega (arith, g.inside, g.ahead)
 
-pub loop-weight-preserved : goal.loop-weight-preserved
-loop-weight-preserved c =
+pub loop-read-preserved : goal.loop-read-preserved
+loop-read-preserved c =
     rw c.with_gate-seen.ensures
-    (go_on _ _ _ _ _ _ _ _ _ c.loop-weight.invariant
-    (gate_read _ _ _ _ _ _ _ (sym c.read_line.ensures ∙ c.in_ok-weight.was ∙ ap Ok c.in-Gate.is)))
-
-pub returns-in-End : goal.returns-in-End
-returns-in-End c =
-    let l = c.loop-weight.invariant in
-    let on = end_read _ _ _ _ (sym c.read_line.ensures ∙ c.in_ok-weight.was ∙ ap Ok c.in-End.is) l.so_far in
-    c.look_end.ensures l.so_far l.known ∙ ap (λ w. shown (weigh w)) (sym on ∙ l.same)
+    (go_on _ _ _ _ _ _ _ _ _ c.loop-read.invariant
+    (gate_read _ _ _ _ _ _ _ (sym c.read_line.ensures ∙ c.in_ok-read.was ∙ ap Ok c.in-Gate.is)))
 
 pub returns-in_default : goal.returns-in_default
 returns-in_default c =
-    let l = c.loop-weight.invariant in
+    let l = c.loop-read.invariant in
+    let on = end_read _ _ _ _ (sym c.read_line.ensures ∙ c.in_ok-read.was ∙ ap Ok c.in-End.is) l.so_far in
+    c.look_end.ensures l.so_far l.known ∙ ap (λ w. shown (weigh w)) (sym on ∙ l.same)
+
+pub returns-in_default-read : goal.returns-in_default-read
+returns-in_default-read c =
+    let l = c.loop-read.invariant in
     rw c.at_line.ensures
     (refusal_told
-    (sym l.same ∙ no_gate_or_end _ _ _ l.so_far _ _ (sym c.read_line.ensures ∙ c.in_ok-weight.was) c.in_default.not-Gate c.in_default.not-End))
+    (sym l.same ∙ no_gate_or_end _ _ _ l.so_far _ _ (sym c.read_line.ensures ∙ c.in_ok-read.was) c.in_default.not-Gate c.in_default-read.not-End))

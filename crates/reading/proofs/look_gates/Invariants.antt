@@ -6,8 +6,8 @@ use lib.ListN.{length}
 use Rattle.reading.proofs.Looking.{Going}
 use Rattle.reading.proofs.look_gates.Given as goal
 
-abbrev pub invariant-loop-weight : goal.invariant-loop-weight
-invariant-loop-weight l = Going l.text l.first l.initial.seen l.at l.seen
+abbrev pub invariant-loop-read : goal.invariant-loop-read
+invariant-loop-read l = Going l.text l.first l.initial.seen l.at l.seen
 
-abbrev pub decreases-loop-weight : goal.decreases-loop-weight
-decreases-loop-weight l = length l.text - l.at
+abbrev pub decreases-loop-read : goal.decreases-loop-read
+decreases-loop-read l = length l.text - l.at
