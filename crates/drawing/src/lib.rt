@@ -9,7 +9,8 @@ ghost use Rattle.drawing.specs.Prepared.{lent_of, lent_in, any_short, prepared_l
 ghost use Rattle.drawing.specs.steps.Preparing.{Readable};
 
 use frames::Refusal;
-use results::block::Block;
+use results::block::{self, Block};
+use results::line;
 use rows::Header;
 
 // Whether a row is shorter than so many gates need.
@@ -68,8 +69,8 @@ impl Prepared<'_> {
         ensures { Told self.now.answer index (lent_in self.now) out.old result out.new }
     {
         match self.answer {
-            Ok(header) => results::line::line(index, header, self.row, self.labels, self.marks, out),
-            Err(refusal) if index == 0 => results::line::refusal_line(refusal, out),
+            Ok(header) => line::line(index, header, self.row, self.labels, self.marks, out),
+            Err(refusal) if index == 0 => line::refusal_line(refusal, out),
             Err(_) => Ok(0),
         }
     }
@@ -80,10 +81,8 @@ impl Prepared<'_> {
         ensures { ToldLines self.now.answer index (lent_in self.now) out.old result out.new }
     {
         match self.answer {
-            Ok(header) => {
-                results::block::lines(index, header, self.row, self.labels, self.marks, out)
-            }
-            Err(refusal) => results::block::refusal_lines(index, refusal, out),
+            Ok(header) => block::lines(index, header, self.row, self.labels, self.marks, out),
+            Err(refusal) => block::refusal_lines(index, refusal, out),
         }
     }
 }

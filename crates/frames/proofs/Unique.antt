@@ -6,6 +6,7 @@ use Rattle.frames.proofs.Refusal.at_column.Reads as refusal_at_column
 use Rattle.frames.proofs.Refusal.at_line.Reads as refusal_at_line
 use Rattle.frames.proofs.Refusal.at_no_line.Reads as refusal_at_no_line
 use Rattle.frames.proofs.Refusal.no_room.Reads as refusal_no_room
+use Rattle.frames.proofs.Cause.at.Reads as cause_at
 use Rattle.frames.proofs.read_line.Reads as read_line
 use Rattle.frames.proofs.fan_in.Reads as fan_in
 use Rattle.frames.proofs.put.put.Reads as put_put
@@ -13,6 +14,9 @@ use Rattle.frames.proofs.put.put_words.Reads as put_put_words
 use Rattle.frames.proofs.put.feed.Reads as put_feed
 
 -- Passed by value, or lent by `&`: nothing of the arguments changes, and the result is the whole outcome.
+
+pub cause_at_unique : OneOutcome cause_at.Learnt (λ κs exit. tt {0})
+cause_at_unique κs args r s exit exit' p q = (same p q, refl)
 
 pub refusal_at_column_unique : OneOutcome refusal_at_column.Learnt (λ κs exit. tt {0})
 refusal_at_column_unique κs args r s exit exit' p q = (same p q, refl)

@@ -1,6 +1,24 @@
 -- A refusal as a value.
 use Rattle.std.specs.Prelude.{ℕ}
 use Rattle.frames.specs.declared.Refusal.{Refusal}
+use Rattle.frames.specs.declared.Cause.{Cause}
+use Rattle.frames.specs.declared.Cause.TheVariants.{TooLong, Misplaced, WrongLength, OneTooMany, Unordered, Miscounted, NoGates, TooHeavy, TooShort, BadDigit, OddDigits, EmptyLine, NotEnded}
+
+-- the number that a cause is told by
+abbrev pub number_of : Cause → ℕ
+number_of TooLong = 1
+number_of Misplaced = 3
+number_of WrongLength = 4
+number_of OneTooMany = 5
+number_of Unordered = 6
+number_of Miscounted = 7
+number_of NoGates = 8
+number_of TooHeavy = 9
+number_of TooShort = 10
+number_of BadDigit = 21
+number_of OddDigits = 22
+number_of EmptyLine = 23
+number_of NotEnded = 24
 
 -- [O1] number, line and column, and nothing else
 abbrev pub at_column : ℕ → ℕ → ℕ → Refusal

@@ -11,23 +11,20 @@ ghost use Rattle.frames.specs.steps.Cut.{ended_line, form_fault};
 ghost use Rattle.frames.specs.declared.Place.TheVariants.{Opening, AfterGates};
 
 use crate::{
-    BAD_DIGIT, BEFORE_FAN_INS, EMPTY_LINE, LineRead, MISCOUNTED, MISPLACED, NO_DIGIT, NO_GATES,
-    NOT_ENDED, ODD_DIGITS, ONE_TOO_MANY, Place, Refusal, UNORDERED, WRONG_LENGTH, byte_at, digit,
-    long_at, word_at,
+    BEFORE_FAN_INS, Cause, Kind, LineRead, NO_DIGIT, Place, Refusal, byte_at, digit, long_at,
+    word_at,
 };
 use units::{Cells, FanInCount, GateNumber, Ticks};
 
 // The line feed, 0A.
 const LINE_FEED: u8 = 10;
 
-// The type of a header.
-const HEADER_TYPE: u64 = 0x01;
+// The types of a text's frames, as they are read.
+const HEADER: u64 = Kind::Header as u64;
 
-// The type of a gate.
-const GATE_TYPE: u64 = 0x02;
+const GATE: u64 = Kind::Gate as u64;
 
-// The type of an end.
-const END_TYPE: u64 = 0x0F;
+const END: u64 = Kind::End as u64;
 
 // Digits of a whole header: two for its type, eight for M and four for D.
 const HEADER_DIGITS: usize = 14;
@@ -86,18 +83,18 @@ impl<'a> Cut<'a> {
     {
         let length = line_length(rest);
         if length == 0 {
-            return Err(Refusal::at_line(EMPTY_LINE, line));
+            return Err(Cause::EmptyLine.at(line));
         }
         let digits = &rest[..length];
         if let Some(bad) = first_bad(digits) {
             // Columns count from 1.
-            return Err(Refusal::at_column(BAD_DIGIT, line, bad + 1));
+            return Err(Refusal::at_column(Cause::BadDigit as u8, line, bad + 1));
         }
         if length % 2 != 0 {
-            return Err(Refusal::at_line(ODD_DIGITS, line));
+            return Err(Cause::OddDigits.at(line));
         }
         if rest.len() <= length {
-            return Err(Refusal::at_line(NOT_ENDED, line));
+            return Err(Cause::NotEnded.at(line));
         }
         Ok(Cut {
             digits,
@@ -111,10 +108,10 @@ impl<'a> Cut<'a> {
         ensures { result ≡ cut_answer self.now place }
     {
         match (place, byte_at(self.digits, 0)) {
-            (Place::Opening, HEADER_TYPE) => self.header(),
-            (Place::AfterGates(gates), GATE_TYPE) => self.gate(gates),
-            (Place::AfterGates(gates), END_TYPE) => self.end(gates),
-            _ => Err(Refusal::at_line(MISPLACED, self.line)),
+            (Place::Opening, HEADER) => self.header(),
+            (Place::AfterGates(gates), GATE) => self.gate(gates),
+            (Place::AfterGates(gates), END) => self.end(gates),
+            _ => Err(Cause::Misplaced.at(self.line)),
         }
     }
 
@@ -123,7 +120,7 @@ impl<'a> Cut<'a> {
         requires { byte_from self.now.digits.now 0 ≡ 0x01 }
         ensures { result ≡ cut_answer self.now Opening }
     {
-        let wrong_length = Refusal::at_line(WRONG_LENGTH, self.line);
+        let wrong_length = Cause::WrongLength.at(self.line);
         if self.digits.len() != HEADER_DIGITS {
             return Err(wrong_length);
         }
@@ -141,16 +138,16 @@ impl<'a> Cut<'a> {
         requires { byte_from self.now.digits.now 0 ≡ 0x02 }
         ensures { result ≡ cut_answer self.now (AfterGates gates) }
     {
-        let wrong_length = Refusal::at_line(WRONG_LENGTH, self.line);
+        let wrong_length = Cause::WrongLength.at(self.line);
         // The count of fan-ins stands behind type, weight and delay.
         let fan_ins = byte_at(self.digits, 10) as usize;
         let count = FanInCount::new(fan_ins).ok_or(wrong_length)?;
         if self.digits.len() != BEFORE_FAN_INS + 4 * fan_ins {
             return Err(wrong_length);
         }
-        let gate = GateNumber::new(gates).ok_or(Refusal::at_line(ONE_TOO_MANY, self.line))?;
+        let gate = GateNumber::new(gates).ok_or(Cause::OneTooMany.at(self.line))?;
         if !rising(&self.digits[BEFORE_FAN_INS..], gate) {
-            return Err(Refusal::at_line(UNORDERED, self.line));
+            return Err(Cause::Unordered.at(self.line));
         }
         // The weight stands behind the type, the delay behind the weight. Both are always made: two bytes say at most 65,535.
         let weight = Cells::weight(word_at(self.digits, 2)).ok_or(wrong_length)?;
@@ -169,14 +166,14 @@ impl<'a> Cut<'a> {
         ensures { result ≡ cut_answer self.now (AfterGates gates) }
     {
         if self.digits.len() != END_DIGITS {
-            return Err(Refusal::at_line(WRONG_LENGTH, self.line));
+            return Err(Cause::WrongLength.at(self.line));
         }
         // The number of gates stands behind the type.
         if word_at(self.digits, 2) != gates as u64 {
-            return Err(Refusal::at_line(MISCOUNTED, self.line));
+            return Err(Cause::Miscounted.at(self.line));
         }
         if gates == 0 {
-            return Err(Refusal::at_line(NO_GATES, self.line));
+            return Err(Cause::NoGates.at(self.line));
         }
         Ok(LineRead::End { next: self.next })
     }

@@ -12,7 +12,7 @@ ghost use Rattle.std.specs.Prelude.{◌≡◌, ◌+◌, ◌^◌, ◌<◌};
 ghost use Rattle.frames.specs.Text.{digit};
 ghost use Rattle.frames.specs.Frames.{line_read, digit_at, byte_from, word_from, fan_in_from};
 ghost use Rattle.frames.specs.steps.Cut.{long_from};
-ghost use Rattle.frames.specs.Refusal.{at_column, at_line, at_no_line, no_room};
+ghost use Rattle.frames.specs.Refusal.{number_of, at_column, at_line, at_no_line, no_room};
 
 use cut::Cut;
 use units::{Cells, FanInCount, Ticks};
@@ -59,44 +59,58 @@ pub enum LineRead {
 // The bytes that a text may have [B5].
 pub const MOST_TEXT: usize = 24_576;
 
-// The refusal numbers. A text above its ceiling:
-pub const TOO_LONG: u8 = 1;
+// Why a text or a row is refused: the table's causes, each with the number that a refusal tells.
+#[derive(Clone, Copy, PartialEq, Eq)]
+pub enum Cause {
+    // A text above its ceiling.
+    TooLong = 1,
+    // An unknown or misplaced type.
+    Misplaced = 3,
+    // A frame length wrong for its type or count, or a count above 8.
+    WrongLength = 4,
+    // A 513th gate.
+    OneTooMany = 5,
+    // A fan-in not rising or not below its gate.
+    Unordered = 6,
+    // An 0F count that differs.
+    Miscounted = 7,
+    // An 0F with no gates before it.
+    NoGates = 8,
+    // A gate heavier than M.
+    TooHeavy = 9,
+    // A lent row too short for the network, or for what was asked to be written.
+    TooShort = 10,
+    // A byte that is no digit.
+    BadDigit = 21,
+    // An odd number of digits.
+    OddDigits = 22,
+    // An empty line.
+    EmptyLine = 23,
+    // A last line that is not ended.
+    NotEnded = 24,
+}
 
-// What one line can give. A byte that is no digit:
-pub const BAD_DIGIT: u8 = 21;
+impl Cause {
+    // The refusal of that cause, told at a line.
+    pub fn at(self, line: usize) -> Refusal
+        ensures { result ≡ at_line (number_of self) line }
+    {
+        Refusal::at_line(self as u8, line)
+    }
+}
 
-// An odd number of digits:
-pub const ODD_DIGITS: u8 = 22;
-
-// An empty line:
-pub const EMPTY_LINE: u8 = 23;
-
-// A last line that is not ended:
-pub const NOT_ENDED: u8 = 24;
-
-// An unknown or misplaced type:
-pub const MISPLACED: u8 = 3;
-
-// A frame length wrong for its type or count, or a count above 8:
-pub const WRONG_LENGTH: u8 = 4;
-
-// A 513th gate:
-pub const ONE_TOO_MANY: u8 = 5;
-
-// A fan-in not rising or not below its gate:
-pub const UNORDERED: u8 = 6;
-
-// An 0F count that differs:
-pub const MISCOUNTED: u8 = 7;
-
-// An 0F with no gates before it:
-pub const NO_GATES: u8 = 8;
-
-// A gate heavier than M:
-pub const TOO_HEAVY: u8 = 9;
-
-// A lent row too short for the network, or for what was asked to be written:
-pub const TOO_SHORT: u8 = 10;
+// The types of frames, those of a text and those of a result.
+#[derive(Clone, Copy, PartialEq, Eq)]
+pub enum Kind {
+    Header = 0x01,
+    Gate = 0x02,
+    End = 0x0F,
+    Result = 0x11,
+    Label = 0x12,
+    Cluster = 0x13,
+    Refusal = 0x1E,
+    ResultEnd = 0x1F,
+}
 
 impl Refusal {
     pub fn at_column(number: u8, line: usize, column: usize) -> Refusal
@@ -127,7 +141,7 @@ impl Refusal {
     pub fn no_room() -> Refusal
         ensures { result ≡ no_room }
     {
-        Refusal::at_no_line(TOO_SHORT)
+        Refusal::at_no_line(Cause::TooShort as u8)
     }
 }
 

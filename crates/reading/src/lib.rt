@@ -13,7 +13,7 @@ ghost use Rattle.rows.specs.Read.{shown, filled};
 ghost use Rattle.reading.specs.ReadInto.{ReadInto};
 ghost use Rattle.reading.specs.steps.Passes.{Known, header_only, one_more, with_fan_ins, FitsInto};
 
-use frames::{LineRead, MISPLACED, MOST_TEXT, Place, Refusal, TOO_HEAVY, TOO_LONG};
+use frames::{Cause, LineRead, MOST_TEXT, Place, Refusal};
 use rows::Header;
 use units::{Cells, Ticks};
 
@@ -50,10 +50,10 @@ fn look_end(text: &[u8], at: usize, seen: Seen) -> Result<Header, Refusal>
 {
     let missing = seen.header.gates + 3;
     let LineRead::Nothing = frames::read_line(text, at, Place::Closed, missing)? else {
-        return Err(Refusal::at_line(MISPLACED, missing));
+        return Err(Cause::Misplaced.at(missing));
     };
     match seen.heavy {
-        Some(line) => Err(Refusal::at_line(TOO_HEAVY, line)),
+        Some(line) => Err(Cause::TooHeavy.at(line)),
         None => Ok(seen.header),
     }
 }
@@ -76,7 +76,7 @@ fn look_gates(text: &[u8], first: usize, capacity: Cells, hop: Ticks) -> Result<
         let read = frames::read_line(text, at, Place::AfterGates(gates), gates + 2)?;
         let LineRead::Gate { weight, next, .. } = read else {
             let LineRead::End { next } = read else {
-                return Err(Refusal::at_line(MISPLACED, gates + 2));
+                return Err(Cause::Misplaced.at(gates + 2));
             };
             return look_end(text, next, seen);
         };
@@ -90,7 +90,7 @@ pub fn look(text: &[u8]) -> Result<Header, Refusal>
     ensures { result ≡ shown (reading text.now) }
 {
     if MOST_TEXT < text.len() {
-        return Err(Refusal::at_no_line(TOO_LONG));
+        return Err(Refusal::at_no_line(Cause::TooLong as u8));
     }
     let LineRead::Header {
         capacity,
@@ -98,7 +98,7 @@ pub fn look(text: &[u8]) -> Result<Header, Refusal>
         next,
     } = frames::read_line(text, 0, Place::Opening, 1)?
     else {
-        return Err(Refusal::at_line(MISPLACED, 1));
+        return Err(Cause::Misplaced.at(1));
     };
     look_gates(text, next, capacity, hop)
 }

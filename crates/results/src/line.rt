@@ -13,8 +13,8 @@ ghost use Rattle.results.specs.Line.{told_line, LineAnswered};
 ghost use Rattle.results.specs.steps.Line.{later_lines};
 
 use crate::marked::Marked;
-use frames::Refusal;
 use frames::put::{feed, put, put_words};
+use frames::{Kind, Refusal};
 use labelling::labelled::Labelled;
 use rows::Header;
 use selection::{count_marked, nth_marked, output_delay};
@@ -27,7 +27,7 @@ fn result_line(delay: Ticks, clusters: u16, out: &mut [u8]) -> Result<usize, Ref
     if out.len() < 15 {
         return Err(Refusal::no_room());
     }
-    let at = put(out, 0, &[0x11]);
+    let at = put(out, 0, &[Kind::Result as u8]);
     let at = put(out, at, &delay.label_place().to_be_bytes());
     let at = put(out, at, &clusters.to_be_bytes());
     feed(out, at)
@@ -40,7 +40,7 @@ fn label_line(gate: u16, label: u32, out: &mut [u8]) -> Result<usize, Refusal>
     if out.len() < 15 {
         return Err(Refusal::no_room());
     }
-    let at = put(out, 0, &[0x12]);
+    let at = put(out, 0, &[Kind::Label as u8]);
     let at = put(out, at, &gate.to_be_bytes());
     let at = put(out, at, &label.to_be_bytes());
     feed(out, at)
@@ -54,7 +54,7 @@ fn cluster_line(root: u16, members: &[u16], out: &mut [u8]) -> Result<usize, Ref
     if out.len() < 11 + 4 * members.len() {
         return Err(Refusal::no_room());
     }
-    let at = put(out, 0, &[0x13]);
+    let at = put(out, 0, &[Kind::Cluster as u8]);
     let at = put(out, at, &root.to_be_bytes());
     let at = put(out, at, &(members.len() as u16).to_be_bytes());
     let at = put_words(out, at, members);
@@ -68,7 +68,7 @@ fn end_line(gates: u16, out: &mut [u8]) -> Result<usize, Refusal>
     if out.len() < 7 {
         return Err(Refusal::no_room());
     }
-    let at = put(out, 0, &[0x1F]);
+    let at = put(out, 0, &[Kind::ResultEnd as u8]);
     let at = put(out, at, &gates.to_be_bytes());
     feed(out, at)
 }
@@ -81,7 +81,7 @@ pub fn refusal_line(refusal: Refusal, out: &mut [u8]) -> Result<usize, Refusal>
     if out.len() < 13 {
         return Err(Refusal::no_room());
     }
-    let at = put(out, 0, &[0x1E]);
+    let at = put(out, 0, &[Kind::Refusal as u8]);
     let at = put(out, at, &[refusal.number]);
     let at = put(out, at, &((refusal.line % 65_536) as u16).to_be_bytes());
     let at = put(out, at, &((refusal.column % 65_536) as u16).to_be_bytes());

@@ -4,7 +4,7 @@
 
 ghost use Rattle.std.specs.Prelude.{◌≡◌, ◌&&◌, ◌+◌, ◌^◌, ◌<◌, get_or, leb, ltb};
 ghost use Rattle.model.specs.Network.{empty};
-ghost use Rattle.frames.specs.Refusal.{at_line};
+ghost use Rattle.frames.specs.Refusal.{number_of, at_line};
 ghost use Rattle.frames.specs.Table.{rising_from};
 ghost use Rattle.rows.specs.Row.{places, too_short, block, weight_in, delay_in, count_in, fanins_in, gate_put, fanin_put};
 ghost use Rattle.rows.specs.Read.{checked};
@@ -21,9 +21,7 @@ ghost use Rattle.rows.specs.steps.RowCheck.{
 
 pub mod network;
 
-use frames::{
-    MOST_TEXT, NO_GATES, ONE_TOO_MANY, Refusal, TOO_HEAVY, TOO_LONG, UNORDERED, WRONG_LENGTH,
-};
+use frames::{Cause, MOST_TEXT, Refusal};
 use units::{Cells, FanInCount, GateNumber, Ticks};
 
 // What is said once of a network: the capacity M, the hop delay D and the number of gates. M and D above their ceilings count
@@ -190,11 +188,11 @@ fn rising(fanins: &[u16], gate: usize) -> bool
 }
 
 // A refusal at the line of a gate.
-fn at_gate(number: u8, gate: usize) -> Refusal
+fn at_gate(cause: Cause, gate: usize) -> Refusal
     requires { gate + 2 < 2 ^ 64 }
-    ensures { result ≡ at_line number (gate + 2) }
+    ensures { result ≡ at_line (number_of cause) (gate + 2) }
 {
-    Refusal::at_line(number, gate + FIRST_GATE)
+    cause.at(gate + FIRST_GATE)
 }
 
 // 4, 5 and 6 of one gate, at its line.
@@ -202,10 +200,10 @@ fn gate_fault(row: &[u16], gate: usize) -> Result<(), Refusal>
     requires { gate + 2 < 2 ^ 64 }
     ensures { result ≡ gate_fault row.now gate }
 {
-    FanInCount::new(count(row, gate)).ok_or(at_gate(WRONG_LENGTH, gate))?;
-    GateNumber::new(gate).ok_or(at_gate(ONE_TOO_MANY, gate))?;
+    FanInCount::new(count(row, gate)).ok_or(at_gate(Cause::WrongLength, gate))?;
+    GateNumber::new(gate).ok_or(at_gate(Cause::OneTooMany, gate))?;
     if !rising(fan_ins(row, gate), gate) {
-        return Err(at_gate(UNORDERED, gate));
+        return Err(at_gate(Cause::Unordered, gate));
     }
     Ok(())
 }
@@ -227,7 +225,7 @@ fn heavy_fault(gate: usize, weight: Cells, capacity: Cells) -> Result<(), Refusa
     ensures { result ≡ heavy_fault gate weight.0 capacity.0 }
 {
     if !weight.within(capacity) {
-        return Err(at_gate(TOO_HEAVY, gate));
+        return Err(at_gate(Cause::TooHeavy, gate));
     }
     Ok(())
 }
@@ -252,11 +250,11 @@ fn row_fault(header: Header, row: &[u16]) -> Result<(), Refusal>
         return Err(Refusal::no_room());
     }
     if too_long(gates, row) {
-        return Err(Refusal::at_no_line(TOO_LONG));
+        return Err(Refusal::at_no_line(Cause::TooLong as u8));
     }
     first_fault(gates, row)?;
     if gates == 0 {
-        return Err(at_gate(NO_GATES, 0));
+        return Err(at_gate(Cause::NoGates, 0));
     }
     first_heavy(header, row)
 }

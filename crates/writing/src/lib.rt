@@ -9,8 +9,8 @@ ghost use Rattle.texts.specs.Spelling.{header_bytes, end_bytes};
 ghost use Rattle.rows.specs.Spelling.{gate_line, row_lines};
 ghost use Rattle.writing.specs.Promises.{RowWritten};
 
-use frames::Refusal;
 use frames::put::{feed, put, put_words};
+use frames::{Kind, Refusal};
 use rows::Header;
 use rows::network::Network;
 
@@ -21,7 +21,7 @@ fn spell_header(capacity: u32, hop: u16, out: &mut [u8]) -> Result<usize, Refusa
     if out.len() < 15 {
         return Err(Refusal::no_room());
     }
-    let at = put(out, 0, &[0x01]);
+    let at = put(out, 0, &[Kind::Header as u8]);
     let at = put(out, at, &capacity.to_be_bytes());
     let at = put(out, at, &hop.to_be_bytes());
     feed(out, at)
@@ -34,7 +34,7 @@ fn spell_end(gates: u16, out: &mut [u8]) -> Result<usize, Refusal>
     if out.len() < 7 {
         return Err(Refusal::no_room());
     }
-    let at = put(out, 0, &[0x0F]);
+    let at = put(out, 0, &[Kind::End as u8]);
     let at = put(out, at, &gates.to_be_bytes());
     feed(out, at)
 }
@@ -52,7 +52,7 @@ fn spell_gate(network: &Network, gate: usize, out: &mut [u8]) -> Result<usize, R
     }
     let weight = rows::weight(row, gate).weight_place();
     let delay = rows::delay(row, gate).delay_place();
-    let at = put(out, 0, &[0x02]);
+    let at = put(out, 0, &[Kind::Gate as u8]);
     let at = put(out, at, &weight.to_be_bytes());
     let at = put(out, at, &delay.to_be_bytes());
     let at = put(out, at, &[count as u8]);

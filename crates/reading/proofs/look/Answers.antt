@@ -23,7 +23,7 @@ returns-in_err-capacity c =
 
 pub returns-in_default : goal.returns-in_default
 returns-in_default c =
-    rw (c.at_line.ensures, read_fitting c.args.text.now (search rules))
+    rw (c.at.ensures, read_fitting c.args.text.now (search rules))
     (refusal_told (no_header _ 0 1 nothing_read _ (sym c.read_line.ensures ∙ c.in_ok-capacity.was) c.in_default.not-Header))
 
 pub returns : goal.returns

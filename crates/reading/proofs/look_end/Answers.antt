@@ -15,14 +15,14 @@ returns-in_err-read_line c =
 pub returns-in_default : goal.returns-in_default
 returns-in_default c =
     λ n k.
-    rw c.at_line.ensures
+    rw c.at.ensures
     (refusal_told (no_end _ _ _ n _ (sym c.read_line.ensures ∙ c.in_ok-read_line.was) c.in_default.not-Nothing))
 
 pub returns-in-Some : goal.returns-in-Some
 returns-in-Some c =
     λ n k.
     let ended = whole _ _ _ n (sym c.read_line.ensures ∙ c.in_ok-read_line.was ∙ ap Ok c.in-Nothing.is) in
-    rw (c.at_line-in-Some.ensures, ended) (told_some c.args.seen n _ k c.in-Some.is)
+    rw (c.at-in-Some.ensures, ended) (told_some c.args.seen n _ k c.in-Some.is)
 
 pub returns-in-None : goal.returns-in-None
 returns-in-None c =

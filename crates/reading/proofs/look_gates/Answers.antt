@@ -45,6 +45,6 @@ returns-in_default c =
 pub returns-in_default-read : goal.returns-in_default-read
 returns-in_default-read c =
     let l = c.loop-read.invariant in
-    rw c.at_line.ensures
+    rw c.at.ensures
     (refusal_told
     (sym l.same ∙ no_gate_or_end _ _ _ l.so_far _ _ (sym c.read_line.ensures ∙ c.in_ok-read.was) c.in_default.not-Gate c.in_default-read.not-End))

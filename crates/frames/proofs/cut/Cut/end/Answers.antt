@@ -5,15 +5,15 @@ use Rattle.frames.proofs.cut.Cut.end.Goals as goal
 
 pub returns-then-self-ne-END_DIGITS : goal.returns-then-self-ne-END_DIGITS
 returns-then-self-ne-END_DIGITS c =
-    end_4 _ _ _ _ c.args.self.now.formed c.requires c.at_line.ensures c.if-self-ne-END_DIGITS.true
+    end_4 _ _ _ _ c.args.self.now.formed c.requires c.at.ensures c.if-self-ne-END_DIGITS.true
 
 pub returns-then-word_at-gates : goal.returns-then-word_at-gates
 returns-then-word_at-gates c =
-    end_7 _ _ _ _ c.args.self.now.formed c.requires (omega arith) c.at_line-then-word_at-gates.ensures (omega arith)
+    end_7 _ _ _ _ c.args.self.now.formed c.requires (omega arith) c.at-then-word_at-gates.ensures (omega arith)
 
 pub returns-then-gates-eq0 : goal.returns-then-gates-eq0
 returns-then-gates-eq0 c =
-    end_8 _ _ _ _ c.args.self.now.formed c.requires (omega arith) (omega arith) c.at_line-then-gates-eq0.ensures (omega arith)
+    end_8 _ _ _ _ c.args.self.now.formed c.requires (omega arith) (omega arith) c.at-then-gates-eq0.ensures (omega arith)
 
 pub returns : goal.returns
 returns c =

@@ -7,7 +7,7 @@ use Rattle.frames.proofs.cut.Cut.first.Goals as goal
 
 pub returns-then-length-eq0 : goal.returns-then-length-eq0
 returns-then-length-eq0 c =
-    cut_23 _ _ _ c.requires.0 c.line_length-length.ensures c.at_line.ensures c.if-length-eq0.true
+    cut_23 _ _ _ c.requires.0 c.line_length-length.ensures c.at.ensures c.if-length-eq0.true
 
 pub returns-in-Some : goal.returns-in-Some
 returns-in-Some c =
@@ -15,11 +15,11 @@ returns-in-Some c =
 
 pub returns-then-length-ne0 : goal.returns-then-length-ne0
 returns-then-length-ne0 c =
-    cut_22 _ _ _ c.requires.0 c.line_length-length.ensures (omega arith) (sym c.first_bad.ensures ∙ c.in_default.is) c.at_line-then-length-ne0.ensures c.if-length-ne0.true
+    cut_22 _ _ _ c.requires.0 c.line_length-length.ensures (omega arith) (sym c.first_bad.ensures ∙ c.in_default.is) c.at-then-length-ne0.ensures c.if-length-ne0.true
 
 pub returns-then-rest-length : goal.returns-then-rest-length
 returns-then-rest-length c =
-    cut_24 _ _ _ c.requires.0 c.line_length-length.ensures (omega arith) (sym c.first_bad.ensures ∙ c.in_default.is) (omega arith) c.at_line-then-rest-length.ensures c.if-rest-length.true
+    cut_24 _ _ _ c.requires.0 c.line_length-length.ensures (omega arith) (sym c.first_bad.ensures ∙ c.in_default.is) (omega arith) c.at-then-rest-length.ensures c.if-rest-length.true
 
 pub invariant_of-result : goal.invariant_of-result
 invariant_of-result c =

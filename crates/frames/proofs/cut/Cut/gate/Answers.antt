@@ -22,7 +22,7 @@ returns-in_err-count c =
 
 pub returns-then-self-fan_ins : goal.returns-then-self-fan_ins
 returns-then-self-fan_ins c =
-    gate_4_length _ _ _ _ c.args.self.now.formed c.requires c.at_line-wrong_length.ensures (omega arith)
+    gate_4_length _ _ _ _ c.args.self.now.formed c.requires c.at-wrong_length.ensures (omega arith)
 
 pub returns-in_err-gate : goal.returns-in_err-gate
 returns-in_err-gate c =
@@ -41,7 +41,7 @@ returns-then-not-rising c =
     let gate : c.new-2.result ≡ Some c.in_ok-gate.gate = grind arith in
     let numbered = numbered_made c.args.gates _ (sym c.new-2.ensures ∙ gate) in
     gate_6 _ _ _ _ c.args.self.now.formed c.requires (omega (arith, counted_made c.byte_at-fan_ins.result _ (sym c.new.ensures ∙ count))) (omega arith) numbered.0
-    c.at_line-then-not-rising.ensures
+    c.at-then-not-rising.ensures
     (rw (rest_whole ds 12, numbered.1) at (sym c.rising.ensures ∙ c.if-not-rising.true))
 
 pub returns-in_err-weight : goal.returns-in_err-weight

@@ -11,7 +11,7 @@ use Rattle.frames.proofs.cut.Cut.header.Goals as goal
 
 pub returns-then-self-ne-HEADER_DIGITS : goal.returns-then-self-ne-HEADER_DIGITS
 returns-then-self-ne-HEADER_DIGITS c =
-    header_4 _ _ _ c.args.self.now.formed c.requires c.at_line-wrong_length.ensures c.if-self-ne-HEADER_DIGITS.true
+    header_4 _ _ _ c.args.self.now.formed c.requires c.at-wrong_length.ensures c.if-self-ne-HEADER_DIGITS.true
 
 pub returns-in_err-hop : goal.returns-in_err-hop
 returns-in_err-hop c =

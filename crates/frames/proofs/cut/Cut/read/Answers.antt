@@ -7,7 +7,7 @@ use Rattle.frames.proofs.cut.Cut.read.Goals.{in_default-via-in-Opening+in_defaul
 pub returns-in_default : goal.returns-in_default
 returns-in_default c =
     let formed = c.args.self.now.formed in
-    let told = c.at_line.ensures in
+    let told = c.at.ensures in
     let byte = c.byte_at.ensures in
     elim c.in_default.branch [
       | in_default-via-in-Opening+in_default w ↦ rw w.in_default.is-0 (opening_3 _ _ _ formed told (λ e. w.in_default.is-1.1 (byte ∙ e)))
