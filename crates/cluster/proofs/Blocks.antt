@@ -1,5 +1,5 @@
 -- Laws of the blocks that print what a text answers. By the headline each is told whole, and only one past the last line has no line.
-use Rattle.std.specs.Prelude.{Result, Ok, Err}
+use Rattle.std.specs.Prelude.{Result, Ok}
 use Rattle.cluster.specs.declared.WriteFailed.{WriteFailed}
 use Rattle.results.specs.declared.block.Block.{Block}
 use Rattle.frames.specs.declared.Refusal.{Refusal}

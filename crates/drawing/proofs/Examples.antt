@@ -1,7 +1,6 @@
 -- antt computes every worked row, P1 to P24, and blocks of lines.
-use Rattle.std.specs.Prelude.{Result, Ok, Err}
+use Rattle.std.specs.Prelude.{Ok, Err}
 use Rattle.results.specs.Block.{block_of}
-use Rattle.frames.specs.declared.Refusal.{Refusal}
 use Prim.Native.Nat.{ℕ}
 use mathlib.Core.Path.{◌≡◌, refl}
 use mathlib.Core.List.{List, [], ◌++◌}

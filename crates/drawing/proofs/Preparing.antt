@@ -1,7 +1,6 @@
 -- A whole text prepared: reading, labelling and selecting, one after the other, leave the rows that specs/Prepared.antt says.
 use Rattle.std.specs.Prelude.{Result, Ok, Err}
 use Rattle.selection.specs.declared.Drawn.{Drawn}
-use Rattle.results.specs.Block.{block_of}
 use Rattle.results.specs.declared.block.Block.{Block}
 use Prim.Native.Nat.{ℕ, ◌≤◌, ◌<◌}
 use mathlib.Core.Path.{◌≡◌, refl, sym, ◌∙◌, ap}

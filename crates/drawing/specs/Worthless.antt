@@ -1,5 +1,5 @@
 -- Four worthless builds: none of them keeps what `prepare`, `tell` and `tell_lines` promise.
-use Rattle.std.specs.Prelude.{ℕ, ◌≡◌, ◌⊎◌, false, List, set, Result, Ok, Err}
+use Rattle.std.specs.Prelude.{ℕ, ◌≡◌, ◌⊎◌, false, List, set, Result, Err}
 use Rattle.results.specs.declared.block.Block.{Block}
 use Rattle.rows.specs.declared.Header.{Header}
 use Rattle.model.specs.Network.{Network, size}

@@ -1,5 +1,5 @@
 -- What the two halves of answering a text come to together: by the headline, a line of what the text answers.
-use Rattle.std.specs.Prelude.{Result, Ok, Err}
+use Rattle.std.specs.Prelude.{Result}
 use Rattle.frames.specs.declared.Refusal.{Refusal}
 use Rattle.rows.specs.declared.Header.{Header}
 use Prim.Native.Nat.{ℕ}

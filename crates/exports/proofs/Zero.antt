@@ -1,6 +1,5 @@
 -- Refusals are numbered from 1, so that 0 stands for none.
-use Rattle.std.specs.Prelude.{Result, Ok, Err}
-use Rattle.frames.specs.declared.Refusal.{Refusal}
+use Rattle.std.specs.Prelude.{Ok, Err}
 use Prim.Native.Nat.{ℕ, ◌≤◌}
 use mathlib.Core.Path.{◌≡◌, refl}
 use mathlib.Core.Logic.{◌↔◌}

@@ -6,7 +6,6 @@ use borrow.Author.Tests.{lt-ltb}
 use Rattle.model.proofs.Lists.{true_or_false}
 use Rattle.frames.specs.declared.Refusal.{Refusal}
 use Rattle.frames.specs.Refusal.{no_room}
-use Rattle.rows.specs.declared.Header.{Header}
 use Rattle.rows.specs.declared.network.Network.{Network as Standing}
 use Rattle.units.specs.Outcome.{OneOutcome, OneContent}
 use Rattle.units.proofs.Unique.{same}

@@ -18,7 +18,7 @@ use Rattle.model.proofs.Lists.{true_or_false}
 use Rattle.frames.specs.declared.Refusal.{Refusal}
 use Rattle.frames.specs.Refusal.{no_room}
 use Rattle.frames.specs.Digits.{spell_line}
-use Rattle.frames.proofs.Tests.{never, neither_true}
+use Rattle.frames.proofs.Tests.{never}
 use Rattle.frames.specs.Put.{line_at, line_answer, line_row, LineWritten}
 use Rattle.texts.specs.Reading.{Reading, refused, network}
 use Rattle.texts.specs.Spelling.{join}

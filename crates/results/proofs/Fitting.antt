@@ -1,5 +1,4 @@
 -- Laws of the run of lines that fits a room, line by line, and of a row that has the first of them in front.
-use Rattle.std.specs.Prelude.{Result, Ok, Err}
 use Rattle.results.specs.Block.{block_of}
 use Prim.Native.Nat.{ℕ, zero, suc, ◌+◌, ◌-◌, ◌≤◌, ◌<◌}
 use mathlib.Core.Path.{◌≡◌, refl, sym, ◌∙◌, ap}

@@ -5,7 +5,7 @@ use mathlib.Core.Bool.{true, false}
 use mathlib.Core.Logic.{◌⊎◌, inl, inr}
 use mathlib.Core.List.{List}
 use lib.ListN.{length}
-use Rattle.model.specs.Network.{Network, size}
+use Rattle.model.specs.Network.{size}
 use Rattle.rows.specs.declared.network.Network.{Network as Standing}
 use Rattle.rows.specs.Found.{network_of}
 use Rattle.rows.proofs.Holds.{network_size}

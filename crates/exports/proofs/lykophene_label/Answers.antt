@@ -1,5 +1,5 @@
 -- `exports::lykophene_label` meets its contract: it tells what `labelling::label` answers.
-use mathlib.Core.Path.{◌≡◌, refl, sym, ◌∙◌, ap}
+use mathlib.Core.Path.{◌≡◌, refl, ◌∙◌, ap}
 use Rattle.std.specs.Prelude.{Result, Ok, Err}
 use Rattle.std.specs.Result.{result_and}
 use Rattle.frames.specs.declared.Refusal.{Refusal}

@@ -1,7 +1,4 @@
 -- `results::block::line_from` meets its contract: a line written into the part of the row from a place on.
-use mathlib.Core.Path.{◌≡◌}
-use Rattle.std.specs.Prelude.{Result}
-use Rattle.frames.specs.declared.Refusal.{Refusal}
 use Rattle.results.proofs.Blocks.{told_at, put_from}
 use Rattle.results.proofs.block.line_from.Goals as goal
 

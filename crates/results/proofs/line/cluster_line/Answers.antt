@@ -6,7 +6,7 @@ use Rattle.model.specs.Basics.{gather}
 use Rattle.frames.specs.Digits.{word_bytes}
 use Rattle.frames.proofs.Digits.{length_word_bytes}
 use Rattle.results.specs.Result.{cluster_bytes}
-use Rattle.frames.proofs.Puts.{word_be, long_be}
+use Rattle.frames.proofs.Puts.{word_be}
 use Rattle.results.proofs.ResultLines.{Laid, short_line, laid_line, four_parts}
 use Rattle.results.proofs.line.cluster_line.Goals as goal
 

@@ -3,7 +3,7 @@
 use native.Mathlib.Omega.{arith}
 use Rattle.frames.specs.Digits.{word_bytes}
 use Rattle.results.specs.Result.{result_end_bytes}
-use Rattle.frames.proofs.Puts.{word_be, long_be}
+use Rattle.frames.proofs.Puts.{word_be}
 use Rattle.results.proofs.ResultLines.{Laid, short_line, laid_line, two_parts}
 use Rattle.results.proofs.line.end_line.Goals as goal
 

@@ -1,9 +1,8 @@
 -- `results::line::known_line` meets its contract: the 11, a 12 for each gate, and the lines behind them.
-use Prim.Native.Nat.{ℕ, ◌-◌, ◌≤◌, ◌<◌, ◌^◌}
-use mathlib.Core.Path.{◌≡◌, sym, ◌∙◌, ap}
+use Prim.Native.Nat.{ℕ, ◌-◌, ◌≤◌, ◌<◌}
+use mathlib.Core.Path.{◌≡◌}
 use mathlib.Core.List.{List}
 use native.Mathlib.Omega.{arith}
-use lib.ListN.{get_or}
 use Rattle.model.specs.Network.{Network, size}
 use Rattle.units.specs.Units.{held}
 use Rattle.rows.specs.Found.{network_of}

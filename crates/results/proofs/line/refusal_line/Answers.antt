@@ -6,7 +6,7 @@ use native.Mathlib.Omega.{arith}
 use Rattle.frames.specs.Refusal.{at_column}
 use Rattle.frames.specs.Digits.{word_bytes}
 use Rattle.results.specs.Result.{refusal_bytes}
-use Rattle.frames.proofs.Puts.{word_be, long_be}
+use Rattle.frames.proofs.Puts.{word_be}
 use Rattle.results.proofs.ResultLines.{Laid, short_line, laid_line, four_parts, refusal_wraps}
 use Rattle.results.proofs.line.refusal_line.Goals as goal
 

@@ -1,6 +1,5 @@
 -- `results::marked::Marked::find` meets its contract: what refuses the row, then a row too short, and otherwise the network found.
-use mathlib.Core.Path.{◌≡◌, refl}
-use native.Mathlib.Omega.{arith}
+use mathlib.Core.Path.{refl}
 use Rattle.std.proofs.lemmas.Result.{err_from_is_err_and}
 use Rattle.rows.proofs.Found.{found_refused}
 use Rattle.labelling.proofs.Promises.{found_answer}
