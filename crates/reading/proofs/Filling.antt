@@ -1,6 +1,6 @@
 -- The second pass: gates put into their blocks one by one, until the walk ends, fill the row.
 use Prim.Native.Nat.{ℕ, zero, suc, ◌+◌, ◌*◌, ◌-◌, ◌≤◌, ◌<◌}
-use Rattle.std.specs.Prelude.{Ok, Err}
+use Rattle.std.specs.Prelude.{Result, Ok, Err}
 use mathlib.Core.Path.{◌≡◌, refl, sym, ap, ◌∙◌}
 use mathlib.Core.List.Memᴰ
 use mathlib.Core.List.{List, [], ◌∷◌, ◌++◌, append_assoc, append-nil}
@@ -233,14 +233,8 @@ module _ (text row : List ℕ) (f : FitsInto text row) where
   pub opens : {r : LineRead} → line_read text 0 Opening 1 ≡ Ok r → NoHeader r → ⊥
   opens {r = r} answers other = let e = sym (no_header text 0 1 nothing_read r answers other) ∙ walk_read text f.whole f.reads in never cc
 
-  pub opens_unrefused : {r : Refusal} → line_read text 0 Opening 1 ≡ Err r → ⊥
-  opens_unrefused answers = never_refused text 0 Opening 1 answers nothing_read f.whole refl (walk_read text f.whole f.reads)
-
--- On the way no line is refused.
-pub unrefused : (text before row : List ℕ) (at gates : ℕ) → Filling text before row at gates → {r : Refusal}
-    → line_read text at (AfterGates gates) (gates + 2) ≡ Err r → ⊥
-unrefused text before row at gates f answers =
-    never_refused text at (AfterGates gates) (gates + 2) answers f.so_far f.fits.whole refl f.on
+  pub opens_unrefused : {r : Result LineRead Refusal} {refusal : Refusal} → r ≡ line_read text 0 Opening 1 → r ≡ Err refusal → row ≡ filled (reading text) row
+  opens_unrefused answers refuses = absurd (never_refused text 0 Opening 1 (sym answers ∙ refuses) nothing_read f.whole refl (walk_read text f.whole f.reads))
 
 -- Where no gate is read, the walk is at its end.
 module _

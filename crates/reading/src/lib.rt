@@ -114,6 +114,7 @@ fn fill_fan_ins(text: &[u8], at: usize, count: usize, row: &mut [u16], v: usize)
 }
 
 // Puts the gates of a text into their blocks; the text is a network's, and the row has room for it.
+#[tactic(auto, using(crate::proofs::Filling::opens_unrefused, crate::proofs::LinesRead::refused_there))]
 fn fill_row(text: &[u8], row: &mut [u16])
     requires { FitsInto text.now row.old }
     ensures { row.new ≡ filled (reading text.now) row.old }

@@ -12,10 +12,6 @@ pub returns-in_default : goal.returns-in_default
 returns-in_default c =
     absurd (fill.opens _ _ c.requires (sym c.read_line.ensures ∙ c.in_default.is) (search rules))
 
-pub returns-in_default-2 : goal.returns-in_default-2
-returns-in_default-2 c =
-    absurd (fill.opens_unrefused _ _ c.requires (sym c.read_line.ensures ∙ c.in_default.is))
-
 pub loop-weight-init : goal.loop-weight-init
 loop-weight-init c =
     fill.start _ _ _ _ _ c.requires (header_read _ _ _ _ (sym c.read_line.ensures ∙ c.in-Ok-Header.is ∙ ap Ok c.in-Ok-Header.field-0-is))
@@ -37,7 +33,3 @@ loop-weight-preserved c =
 pub returns-in_default-read_line : goal.returns-in_default-read_line
 returns-in_default-read_line c =
     fill.done _ _ _ _ _ c.loop-weight.invariant (sym c.read_line-in-loop-weight.ensures ∙ c.in_default-read_line.is) (search rules)
-
-pub returns-in_default-read_line-2 : goal.returns-in_default-read_line-2
-returns-in_default-read_line-2 c =
-    absurd (fill.unrefused _ _ _ _ _ c.loop-weight.invariant (sym c.read_line-in-loop-weight.ensures ∙ c.in_default-read_line.is))
