@@ -58,6 +58,7 @@ fn print(prepared: &Prepared) -> Result<usize, WriteFailed>
     ensures { AllPrinted prepared.now.answer (lent_in prepared.now) result }
 {
     let mut out = [0; BLOCK];
+    // Each turn goes on by as many lines as were printed.
     let mut index = 0;
     loop {
         let count = print_block(prepared, index, &mut out)?;

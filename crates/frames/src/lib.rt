@@ -28,7 +28,8 @@ pub enum Place {
     Closed,
 }
 
-// A refusal [O1]: which it is, and where: at what line, and at what column of it.
+// A refusal [O1]: which it is, and where: at what line, and at what column of it. Its number is any of 8 bits and no `Cause`: the makers
+// and whoever tells a refusal promise something for every number.
 #[derive(Clone, Copy)]
 pub struct Refusal {
     pub number: u8,
@@ -145,7 +146,7 @@ impl Refusal {
     }
 }
 
-// What a byte counts for that is no digit.
+// What a byte counts for that is no digit: a number and no `None`, as the specification's `digit` has it.
 const NO_DIGIT: u8 = 16;
 
 // What a byte counts for as a digit.
@@ -164,7 +165,7 @@ fn digit(b: u8) -> u8
 fn digit_at(text: &[u8], k: usize) -> u64
     ensures { result ≡ digit_at text.now k }
 {
-    digit(text.get(k).copied().unwrap_or(0)) as u64
+    u64::from(digit(text.get(k).copied().unwrap_or(0)))
 }
 
 // Two, four and eight digits each have a function, as each has a definition: a loop over digits needs a power of 16 for its bound.
@@ -196,7 +197,7 @@ fn long_at(text: &[u8], k: usize) -> u64
 // of fan-ins. Each fan-in has four.
 const BEFORE_FAN_INS: usize = 12;
 
-// Four digits that are none, each counting 16.
+// Four digits that are none, each counting 16: a number and no `None`, since `fan_in` promises one for every place.
 const NO_FAN_IN: u32 = 69_904;
 
 // The i-th fan-in of the gate line that begins at `at`: the number of its four digits, missing ones counting 16.

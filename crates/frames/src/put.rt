@@ -23,7 +23,7 @@ fn has_room(length: usize, at: usize, needed: usize) -> bool
 }
 
 // The digits of some bytes, two each and the higher one first, put at a place; the answer is the place past them. Without
-// room for all of them nothing is written, and the answer is the place itself.
+// room for all of them nothing is written, and the answer is the place itself (no `None`: `Put` promises the place).
 pub fn put(out: &mut [u8], at: usize, bytes: &[u8]) -> usize
     ensures { Put bytes.now at out.old result out.new }
 {

@@ -10,9 +10,9 @@ ghost use Rattle.labelling.specs.steps.Growing.{stop_of, or_input, input_pulls, 
 
 use crate::labelled::Labelled;
 use crate::order::in_order;
-use crate::own::{Row, Work};
+use crate::own::Work;
 use rows::network::Network;
-use units::Ticks;
+use units::{PerGate, Ticks};
 
 // What growth comes to: how many gates of the ordered row joined, the gate that stopped it, if one did, and the largest pull of
 // an input among those that joined, 0 if there is none [L5].
@@ -24,7 +24,7 @@ pub(crate) struct Grown {
 }
 
 // The larger of a time and the pull of u, if u is a primary input.
-fn or_input(network: &Network, pulls: &Row, time: Ticks, u: usize) -> Ticks
+fn or_input(network: &Network, pulls: &PerGate<u64>, time: Ticks, u: usize) -> Ticks
     requires { u < network.now.header.gates }
     ensures { result.0 ≡ or_input network.now.row.now pulls.now time.0 u }
 {
@@ -36,7 +36,7 @@ fn or_input(network: &Network, pulls: &Row, time: Ticks, u: usize) -> Ticks
 }
 
 // The cluster is v and those that join it in the order, up to the first that would overfill it [L4].
-fn walk(network: &Network, v: usize, pulls: &Row, ordered: &[usize]) -> Grown
+fn walk(network: &Network, v: usize, pulls: &PerGate<u64>, ordered: &[usize]) -> Grown
     requires known { v < network.now.header.gates }
     requires gates { (length ordered.now < most_gates) × Below v ordered.now }
     ensures stop { (result.joined ≤ length ordered.now) × (stop_of result.stop ≡ head? (drop result.joined ordered.now)) }

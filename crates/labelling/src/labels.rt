@@ -9,12 +9,12 @@ ghost use Rattle.labelling.specs.steps.Growing.{stop_of, stop_pull};
 
 use crate::growth::grow;
 use crate::labelled::Labelled;
-use crate::own::{Row, Work};
+use crate::own::Work;
 use rows::network::Network;
-use units::Ticks;
+use units::{PerGate, Ticks};
 
 // The pull of a gate that stays outside, plus D: an input's crossing costs its hop like any other.
-fn outside_pull(hop: Ticks, pulls: &Row, u: usize) -> Ticks
+fn outside_pull(hop: Ticks, pulls: &PerGate<u64>, u: usize) -> Ticks
     requires { u < most_gates }
     ensures { result.0 ≡ held_sum (pull_in pulls.now u) hop.0 }
 {
@@ -22,7 +22,7 @@ fn outside_pull(hop: Ticks, pulls: &Row, u: usize) -> Ticks
 }
 
 // What the gate that stopped growth counts for: its pull and D, 0 if none did [L5].
-fn stop_pull(hop: Ticks, pulls: &Row, stop: Option<usize>) -> Ticks
+fn stop_pull(hop: Ticks, pulls: &PerGate<u64>, stop: Option<usize>) -> Ticks
     requires { IfSome stop (λ s. s < most_gates) }
     ensures { result.0 ≡ stop_pull hop.0 pulls.now (stop_of stop) }
 {

@@ -10,11 +10,11 @@ ghost use Rattle.labelling.specs.steps.Members.{marked, marked_below};
 
 use crate::growth::grow;
 use crate::labelled::Labelled;
-use crate::own::{Marks, Work};
-use units::GateNumber;
+use crate::own::Work;
+use units::{GateNumber, PerGate};
 
-// A mark for each gate that joined.
-fn mark(inside: &mut Marks, gates: &[usize])
+// A mark for each gate that joined: 1 and no `bool`, since the model's `mark` puts numbers.
+fn mark(inside: &mut PerGate<u8>, gates: &[usize])
     requires { Below most_gates gates.now }
     ensures { inside.new ≡ mark inside.old gates.now }
 {
@@ -24,7 +24,7 @@ fn mark(inside: &mut Marks, gates: &[usize])
 }
 
 // A mark for each gate in the cluster of r. An input is alone in its cluster [L1].
-fn mark_cluster(labelled: &Labelled, r: usize, inside: &mut Marks)
+fn mark_cluster(labelled: &Labelled, r: usize, inside: &mut PerGate<u8>)
     requires { r < labelled.now.network.header.gates }
     ensures { inside.new ≡ mark inside.old (cluster (network_of labelled.now.network) labelled.now.labels.now r) }
 {

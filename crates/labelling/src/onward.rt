@@ -7,12 +7,11 @@ ghost use Rattle.model.specs.Onward.{raise, visit};
 ghost use Rattle.rows.specs.Found.{network_of};
 ghost use Rattle.labelling.specs.steps.Standing.{Below, Reached};
 
-use crate::own::Row;
 use rows::network::Network;
-use units::Ticks;
+use units::{PerGate, Ticks};
 
 // The entries of the fan-ins, each made at least `entry`.
-fn raise(onward: &mut Row, entry: Ticks, fanins: &[u16])
+fn raise(onward: &mut PerGate<u64>, entry: Ticks, fanins: &[u16])
     requires { Below most_gates fanins.now }
     ensures { onward.new ≡ raise onward.old entry.0 fanins.now }
 {
@@ -23,7 +22,7 @@ fn raise(onward: &mut Row, entry: Ticks, fanins: &[u16])
 }
 
 // The gate y passes its own entry on to its fan-ins, if a path from it is known.
-fn visit(onward: &mut Row, network: &Network, y: usize)
+fn visit(onward: &mut PerGate<u64>, network: &Network, y: usize)
     requires { (y < network.now.header.gates) × (get_or onward.old y 0 < 2 ^ 63) }
     ensures { onward.new ≡ visit (network_of network.now) onward.old y }
 {
@@ -35,7 +34,7 @@ fn visit(onward: &mut Row, network: &Network, y: usize)
 }
 
 // The onward delays to v: from v downward each gate passes its entry on.
-pub(crate) fn reach(onward: &mut Row, network: &Network, v: usize)
+pub(crate) fn reach(onward: &mut PerGate<u64>, network: &Network, v: usize)
     requires { v < network.now.header.gates }
     ensures { Reached (network_of network.now) v onward.new }
 {

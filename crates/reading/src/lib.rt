@@ -62,6 +62,7 @@ fn look_end(text: &[u8], at: usize, seen: Seen) -> Result<Header, Refusal>
 fn look_gates(text: &[u8], first: usize, capacity: Cells, hop: Ticks) -> Result<Header, Refusal>
     ensures { result ≡ shown (weigh (walk (AfterGates 0) 2 (header_only capacity hop) (lines (drop first text.now)))) }
 {
+    // Each turn goes on at the next line: where it begins only reading tells.
     let mut at = first;
     let mut seen = Seen {
         header: Header {

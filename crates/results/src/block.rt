@@ -33,7 +33,8 @@ pub fn refusal_lines(index: usize, refusal: Refusal, out: &mut [u8]) -> Result<B
     Ok(Block { count: 1, length })
 }
 
-// The line of that index put into the row from a place on: its bytes, 0 where no line is left or it has no room.
+// The line of that index put into the row from a place on: its bytes, 0 where no line is left or it has no room. Both end a block alike, so
+// that an `Option` would only be turned into 0 again.
 fn line_from(index: usize, at: usize, drawn: &Marked, out: &mut [u8]) -> usize
     requires { at ≤ length out.old }
     ensures { Added
@@ -55,6 +56,7 @@ fn lines_behind(index: usize, first: usize, drawn: &Marked, out: &mut [u8]) -> B
         (drawn_lines (network_of drawn.now.labelled.network) drawn.now.labelled.labels.now drawn.now.marks.now))
         out.old result out.new }
 {
+    // Each turn goes on by a line's bytes: there is no row to go over.
     let mut length = first;
     let mut at = 0;
     let mut count = 0;

@@ -172,7 +172,8 @@ fn in_place(fanin: usize, least: usize, gate: usize) -> bool
     least <= fanin && fanin < gate
 }
 
-// 6: whether all fan-ins of a gate are in place.
+// 6: whether all fan-ins of a gate are in place. A text's are read four digits at a time in `frames`, before there is a row; one function for both would
+// have to promise by what an iterator yields.
 fn rising(fanins: &[u16], gate: usize) -> bool
     ensures { result ≡ rising_from 0 gate fanins.now }
 {
@@ -208,7 +209,7 @@ fn gate_fault(row: &[u16], gate: usize) -> Result<(), Refusal>
     Ok(())
 }
 
-// 4, 5 and 6 of the first gate that has one.
+// 4, 5 and 6 of the first gate that has one. A loop of its own for each of the two checks is shorter than one over closures, with their clauses.
 fn first_fault(gates: usize, row: &[u16]) -> Result<(), Refusal>
     requires { gates + 2 < 2 ^ 64 }
     ensures { result ≡ first_fault row.now 0 gates }

@@ -17,7 +17,7 @@ use frames::Refusal;
 use labelling::labelled::Labelled;
 use rows::Header;
 use rows::network::Network;
-use units::{GateNumber, Ticks};
+use units::{GateNumber, PerGate, Ticks};
 
 // What is drawn: how many clusters, whose roots the row marks, and the output delay.
 #[derive(Clone, Copy)]
@@ -26,11 +26,8 @@ pub struct Drawn {
     pub delay: Ticks,
 }
 
-// A mark for each gate.
-type Marks = [u8; GateNumber::MOST_GATES];
-
-// A mark for each gate of a list.
-fn mark(row: &mut Marks, gates: &[u16])
+// A mark for each gate of a list. Labelling's own has gates of another width; one function for both would have to promise by their conversion.
+fn mark(row: &mut PerGate<u8>, gates: &[u16])
     requires { Below most_gates gates.now }
     ensures { row.new ≡ mark row.old gates.now }
 {
@@ -40,7 +37,7 @@ fn mark(row: &mut Marks, gates: &[u16])
 }
 
 // A mark for each gate that some gate reads.
-fn reads(network: &Network) -> Marks
+fn reads(network: &Network) -> PerGate<u8>
     ensures { result ≡ mark (replicate most_gates 0) (fanins_of network.now.row.now (upto network.now.header.gates)) }
 {
     let mut read = [0; GateNumber::MOST_GATES];
@@ -58,7 +55,7 @@ fn time(label: u32) -> Ticks
 }
 
 // The largest label of a gate without a mark.
-fn largest_unmarked(row: &Marks, labelled: &Labelled) -> Ticks
+fn largest_unmarked(row: &PerGate<u8>, labelled: &Labelled) -> Ticks
     ensures small { result.0 < 2 ^ 32 }
     ensures largest { result.0 ≡ largest_label labelled.now.labels.now (unmarked row.now labelled.now.network.header.gates) }
 {
@@ -81,7 +78,7 @@ pub fn output_delay(labelled: &Labelled) -> Ticks
 }
 
 // A mark for each gate that has none in the other row, and for no other.
-fn mark_unmarked(row: &Marks, marks: &mut [u8])
+fn mark_unmarked(row: &PerGate<u8>, marks: &mut [u8])
     requires { length marks.old ≤ most_gates }
     ensures { marks.new
         ≡ mark (replicate (length marks.old) 0) (unmarked row.now (length marks.old)) }
@@ -100,7 +97,7 @@ fn mark_outputs(network: &Network, marks: &mut [u8])
 }
 
 // A mark for each gate of a list that lies outside.
-fn mark_outside(marks: &mut [u8], inside: &Marks, gates: &[u16])
+fn mark_outside(marks: &mut [u8], inside: &PerGate<u8>, gates: &[u16])
     requires { Below (length marks.old) gates.now × (length marks.old ≤ most_gates) }
     ensures { marks.new ≡ mark marks.old (outside inside.now gates.now) }
 {
@@ -113,7 +110,7 @@ fn mark_outside(marks: &mut [u8], inside: &Marks, gates: &[u16])
 }
 
 // A mark for each input of a cluster [S2]: what a member reads and the cluster does not have.
-fn mark_inputs(marks: &mut [u8], inside: &Marks, network: &Network, members: &[u16])
+fn mark_inputs(marks: &mut [u8], inside: &PerGate<u8>, network: &Network, members: &[u16])
     requires { (length marks.old ≡ network.now.header.gates) × Below network.now.header.gates members.now }
     ensures { marks.new ≡ mark marks.old (outside inside.now (fanins_of network.now.row.now members.now)) }
 {
@@ -129,7 +126,8 @@ pub fn count_marked(gates: usize, marks: &[u8]) -> usize
     marks.iter().take(gates).filter(|&&mark| mark != 0).count()
 }
 
-// The marked gate of that index, counted from 0, of so many gates; where there are not so many marks, the number of gates.
+// The marked gate of that index, counted from 0, of so many gates; where there are not so many marks, the number of gates (no `None`: the
+// promise fixes it).
 pub fn nth_marked(gates: usize, marks: &[u8], index: usize) -> usize
     ensures { result ≡ get_or (roots marks.now gates) index gates }
 {

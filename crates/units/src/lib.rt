@@ -1,4 +1,5 @@
-// Quantities of a network, each a type of its own. Cells measure area: a weight, the capacity M, a sum of weights.
+// Quantities of a network, each a type of its own: `Cells` and `Ticks` have methods of one shape, and no trait in common, so that nothing can be
+// written for both [W4]. Cells measure area: a weight, the capacity M, a sum of weights.
 // Ticks measure time: a delay, a label, a pull, the hop delay D. No function here takes one of each, so an area is
 // never added to or compared with a time. Gate numbers and fan-in counts are the two plain numbers with a ceiling.
 // Each of the four ceilings stands once, on the type that it bounds; the type's maker refuses what lies above it.
@@ -136,6 +137,9 @@ impl GateNumber {
         (x < Self::MOST_GATES).then_some(GateNumber(x))
     }
 }
+
+// A place for each gate that a network can have.
+pub type PerGate<T> = [T; GateNumber::MOST_GATES];
 
 // How many fan-ins a gate has.
 #[derive(Clone, Copy)]

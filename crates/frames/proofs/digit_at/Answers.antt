@@ -10,4 +10,4 @@ pub returns : goal.returns
 unfolding digit_at
 returns c =
     let byte : c.unwrap_or.result ≡ get_or c.args.text.now c.args.k 0 = search rules in
-    c.digit.ensures ∙ ap digit byte
+    c.from.ensures ∙ c.digit.ensures ∙ ap digit byte
