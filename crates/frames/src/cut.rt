@@ -50,6 +50,7 @@ fn first_bad(bytes: &[u8]) -> Option<usize>
 fn rising(fan_ins: &[u8], gate: GateNumber) -> bool
     ensures { result ≡ rising_from 0 gate.0 (words (bytes fan_ins.now)) }
 {
+    // No `From` goes from `usize` to `u64`.
     let bound = gate.0 as u64;
     let mut least = 0;
     for fan_in in fan_ins.chunks_exact(4) {
@@ -140,7 +141,7 @@ impl<'a> Cut<'a> {
     {
         let wrong_length = Cause::WrongLength.at(self.line);
         // The count of fan-ins stands behind type, weight and delay.
-        let fan_ins = byte_at(self.digits, 10) as usize;
+        let fan_ins = byte_at(self.digits, 10) as usize; // proved to fit: `try_from` would add an error that never is
         let count = FanInCount::new(fan_ins).ok_or(wrong_length)?;
         if self.digits.len() != BEFORE_FAN_INS + 4 * fan_ins {
             return Err(wrong_length);
@@ -169,6 +170,7 @@ impl<'a> Cut<'a> {
             return Err(Cause::WrongLength.at(self.line));
         }
         // The number of gates stands behind the type.
+        // No `From` goes from `usize` to `u64`.
         if word_at(self.digits, 2) != gates as u64 {
             return Err(Cause::Miscounted.at(self.line));
         }

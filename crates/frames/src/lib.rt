@@ -204,6 +204,7 @@ const NO_FAN_IN: u32 = 69_904;
 pub fn fan_in(text: &[u8], at: usize, i: usize) -> u32
     ensures { result ≡ fan_in_from text.now at i }
 {
+    // The cast is proved to fit: `try_from` would add an error that never is.
     let len = text.len();
     if at < len && i < (len - at) / 4 {
         return word_at(text, at + BEFORE_FAN_INS + 4 * i) as u32;

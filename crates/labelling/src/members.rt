@@ -45,7 +45,7 @@ fn collect(inside: &[u8], members: &mut [u16]) -> usize
     let mut count = 0;
     for (x, &mark) in inside.iter().enumerate() {
         if mark != 0 {
-            members[count] = x as u16;
+            members[count] = x as u16; // proved to fit: `try_from` would add an error that never is
             count += 1;
         }
     }

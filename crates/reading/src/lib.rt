@@ -104,7 +104,8 @@ pub fn look(text: &[u8]) -> Result<Header, Refusal>
     look_gates(text, next, capacity, hop)
 }
 
-// Puts the fan-ins of the gate line that begins at `at` into the block of gate v.
+// Puts the fan-ins of the gate line that begins at `at` into the block of gate v. The cast is proved to fit: `try_from` would add an error that
+// never is.
 fn fill_fan_ins(text: &[u8], at: usize, count: usize, row: &mut [u16], v: usize)
     requires { (i : ℕ) → i < count → fan_in_from text.now at i < 65_536 }
     ensures { row.new ≡ with_fan_ins text.now at v 0 count row.old }

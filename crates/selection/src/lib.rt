@@ -1,5 +1,6 @@
 // Which clusters are drawn: those of the primary outputs, and with each cluster those of its inputs. A drawn cluster's root
-// has a mark in a row with a place for each gate, 1 for drawn and 0 for not.
+// has a mark in a row with a place for each gate, 1 for drawn and 0 for not. The marks are written, and a struct with them would have to be taken
+// apart at each write; so that they have a place a gate each contract says. Casts here widen, in a loop, where `From` is a call more to prove.
 #![tactic(auto)]
 
 ghost use Rattle.std.specs.Prelude.{◌≡◌, ◌^◌, ◌≤◌, ◌<◌, length, get_or, replicate};
