@@ -57,8 +57,8 @@ fn cluster_line(root: u16, members: &[u16], out: &mut [u8]) -> Result<usize, Ref
 fn end_line(gates: u16, out: &mut [u8]) -> Result<usize, Refusal>
     ensures { LineWritten (spell_line (result_end_bytes gates)) out.old result out.new }
 {
-    let [a, b] = gates.to_be_bytes();
-    put_line(out, &[Kind::ResultEnd as u8, a, b])
+    let [high, low] = gates.to_be_bytes();
+    put_line(out, &[Kind::ResultEnd as u8, high, low])
 }
 
 // A refusal's line [F10]. No text has a line or a column that two bytes do not hold; of a number that they do not hold the two

@@ -27,8 +27,8 @@ fn spell_header(capacity: u32, hop: u16, out: &mut [u8]) -> Result<usize, Refusa
 fn spell_end(gates: u16, out: &mut [u8]) -> Result<usize, Refusal>
     ensures { LineWritten (spell_line (end_bytes gates)) out.old result out.new }
 {
-    let [a, b] = gates.to_be_bytes();
-    put_line(out, &[Kind::End as u8, a, b])
+    let [high, low] = gates.to_be_bytes();
+    put_line(out, &[Kind::End as u8, high, low])
 }
 
 // A gate's line [F4].

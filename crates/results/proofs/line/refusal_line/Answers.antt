@@ -8,4 +8,4 @@ pub returns : goal.returns
 unfolding refusal_bytes word_bytes
 returns c =
     rw (← refusal_wraps c.args.refusal)
-    (rw (c.to_be_bytes.ensures, c.to_be_bytes-2.ensures) at c.put_line.ensures)
+    (simp (c.to_be_bytes.ensures, c.to_be_bytes-2.ensures) at c.put_line.ensures)
