@@ -12,6 +12,7 @@ use Rattle.frames.proofs.fan_in.Reads as fan_in
 use Rattle.frames.proofs.put.put.Reads as put_put
 use Rattle.frames.proofs.put.put_words.Reads as put_put_words
 use Rattle.frames.proofs.put.feed.Reads as put_feed
+use Rattle.frames.proofs.put.put_line.Reads as put_put_line
 
 -- Passed by value, or lent by `&`: nothing of the arguments changes, and the result is the whole outcome.
 
@@ -46,3 +47,6 @@ put_put_words_unique κs args r s exit exit' p q = (same p.answer q.answer, same
 
 pub put_feed_unique : OneOutcome put_feed.Learnt (λ κs exit. exit.0.now)
 put_feed_unique κs args r s exit exit' p q = (same p.answer q.answer, same p.kept q.kept)
+
+pub put_put_line_unique : OneOutcome put_put_line.Learnt (λ κs exit. exit.0.now)
+put_put_line_unique κs args r s exit exit' p q = (same p.answer q.answer, same p.kept q.kept)

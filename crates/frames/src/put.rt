@@ -1,9 +1,9 @@
 // Lines of hexadecimal written into a lent row. The puts write bytes and words as digits, from a place on: all of what they
-// were handed or, without room for it, nothing. `feed` ends a line.
+// were handed or, without room for it, nothing. `feed` ends a line, and `put_line` writes a whole one.
 ghost use Rattle.std.specs.Prelude.{◌≡◌, ◌+◌, ◌<◌, ◌≤◌, ◌↔◌, IsTrue};
 ghost use Rattle.model.specs.Basics.{gather};
-ghost use Rattle.frames.specs.Digits.{figure, word_bytes};
-ghost use Rattle.frames.specs.Put.{Put, Fed};
+ghost use Rattle.frames.specs.Digits.{figure, word_bytes, spell_line};
+ghost use Rattle.frames.specs.Put.{Put, Fed, LineWritten};
 
 use crate::Refusal;
 
@@ -63,4 +63,15 @@ pub fn feed(out: &mut [u8], at: usize) -> Result<usize, Refusal>
     } else {
         Err(Refusal::no_room())
     }
+}
+
+// A frame's bytes as a line, from the row's start. A row too short for it answers 10 and is left as it was.
+pub fn put_line(out: &mut [u8], bytes: &[u8]) -> Result<usize, Refusal>
+    ensures { LineWritten (spell_line bytes.now) out.old result out.new }
+{
+    if out.len() <= 2 * bytes.len() {
+        return Err(Refusal::no_room());
+    }
+    let end = put(out, 0, bytes);
+    feed(out, end)
 }

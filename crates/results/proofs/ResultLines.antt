@@ -6,20 +6,13 @@ use mathlib.Core.List.{List, [], ◌∷◌, ◌++◌}
 use native.Mathlib.Omega.{arith}
 use lib.ListN.{length, length-append}
 use Rattle.frames.specs.Digits.{word_bytes, spell_line}
-use Rattle.frames.proofs.Digits.{length_digits}
 use Rattle.frames.specs.declared.Refusal.{Refusal}
 use Rattle.frames.specs.Refusal.{at_column, no_room}
-use Rattle.frames.specs.Digits.{digits}
 use Rattle.frames.specs.Put.{Put, Fed, LineWritten}
-use Rattle.frames.proofs.Puts.{Stands, put_stands, stands_then}
+use Rattle.frames.proofs.Puts.{Stands, put_stands, stands_then, length_bytes}
 use Rattle.frames.proofs.WrittenLines.{line_short, line_ends}
 use Rattle.results.specs.Result.{refusal_bytes}
 use Rattle.results.proofs.Lengths.{line_length}
-
--- two digits a byte
-length_of : (bs : List ℕ) → length (digits bs) ≡ 2 * length bs
-unfolding digits
-length_of bs = length_digits bs
 
 -- A frame's digits stand in front of a row that has room for its line.
 pub record Laid (bs out : List ℕ) (next : ℕ) (row : List ℕ) : Type 0 where
@@ -40,7 +33,7 @@ module _ {out : List ℕ} where
   first bs h p =
       record {
         fits = omega (arith, line_length bs);
-        stands = put_stands bs 0 out _ _ (omega (arith, length_of bs)) p;
+        stands = put_stands bs 0 out _ _ (omega (arith, length_bytes bs)) p;
       }
 
   then : (xs ys : List ℕ) {mid next : ℕ} {part row : List ℕ} → 2 * (length xs + length ys) < length out
@@ -48,23 +41,18 @@ module _ {out : List ℕ} where
   then xs ys h s p =
       record {
         fits = omega (arith, line_length (xs ++ ys), length-append xs ys);
-        stands = stands_then xs ys 0 out _ _ _ _ (omega (arith, length_of (xs ++ ys), length-append xs ys)) s.stands p;
+        stands = stands_then xs ys 0 out _ _ _ _ (omega (arith, length_bytes (xs ++ ys), length-append xs ys)) s.stands p;
       }
-
-  pub two_parts : (kind : ℕ) (xs : List ℕ) {n₁ n₂ : ℕ} {o₁ o₂ : List ℕ} → 2 + 2 * length xs < length out
-      → Put (kind ∷ []) 0 out n₁ o₁ → Put xs n₁ o₁ n₂ o₂ → Laid (kind ∷ xs) out n₂ o₂
-  two_parts kind xs h p₁ p₂ = then (kind ∷ []) xs (omega arith) (first (kind ∷ []) (omega arith) p₁) p₂
-
-  pub three_parts : (kind : ℕ) (xs ys : List ℕ) {n₁ n₂ n₃ : ℕ} {o₁ o₂ o₃ : List ℕ} → 2 + 2 * (length xs + length ys) < length out
-      → Put (kind ∷ []) 0 out n₁ o₁ → Put xs n₁ o₁ n₂ o₂ → Put ys n₂ o₂ n₃ o₃ → Laid (kind ∷ xs ++ ys) out n₃ o₃
-  three_parts kind xs ys h p₁ p₂ p₃ = then (kind ∷ xs) ys (omega arith) (two_parts kind xs (omega arith) p₁ p₂) p₃
 
   pub four_parts : (kind : ℕ) (xs ys zs : List ℕ) {n₁ n₂ n₃ n₄ : ℕ} {o₁ o₂ o₃ o₄ : List ℕ}
       → 2 + 2 * (length xs + length ys + length zs) < length out
       → Put (kind ∷ []) 0 out n₁ o₁ → Put xs n₁ o₁ n₂ o₂ → Put ys n₂ o₂ n₃ o₃ → Put zs n₃ o₃ n₄ o₄
       → Laid (kind ∷ xs ++ ys ++ zs) out n₄ o₄
   four_parts kind xs ys zs h p₁ p₂ p₃ p₄ =
-      then (kind ∷ xs ++ ys) zs (omega (arith, length-append xs ys)) (three_parts kind xs ys (omega arith) p₁ p₂ p₃) p₄
+      let q₁ = first (kind ∷ []) (omega arith) p₁ in
+      let q₂ = then (kind ∷ []) xs (omega arith) q₁ p₂ in
+      let q₃ = then (kind ∷ xs) ys (omega arith) q₂ p₃ in
+      then (kind ∷ xs ++ ys) zs (omega (arith, length-append xs ys)) q₃ p₄
 
 -- Two bytes hold what a number leaves by 65,536.
 wraps : (n : ℕ) → (n % 65_536 / 256 % 256 ≡ n / 256 % 256) × (n % 65_536 % 256 ≡ n % 256)

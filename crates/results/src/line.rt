@@ -13,7 +13,7 @@ ghost use Rattle.results.specs.Line.{told_line, LineAnswered};
 ghost use Rattle.results.specs.steps.Line.{later_lines};
 
 use crate::marked::Marked;
-use frames::put::{feed, put, put_words};
+use frames::put::{feed, put, put_line, put_words};
 use frames::{Kind, Refusal};
 use labelling::labelled::Labelled;
 use rows::Header;
@@ -24,26 +24,18 @@ use units::{GateNumber, Ticks};
 fn result_line(delay: Ticks, clusters: u16, out: &mut [u8]) -> Result<usize, Refusal>
     ensures { LineWritten (spell_line (result_bytes (label_place delay) clusters)) out.old result out.new }
 {
-    if out.len() < 15 {
-        return Err(Refusal::no_room());
-    }
-    let at = put(out, 0, &[Kind::Result as u8]);
-    let at = put(out, at, &delay.label_place().to_be_bytes());
-    let at = put(out, at, &clusters.to_be_bytes());
-    feed(out, at)
+    let [a, b, c, d] = delay.label_place().to_be_bytes();
+    let [e, f] = clusters.to_be_bytes();
+    put_line(out, &[Kind::Result as u8, a, b, c, d, e, f])
 }
 
 // A gate and its label [F7].
 fn label_line(gate: u16, label: u32, out: &mut [u8]) -> Result<usize, Refusal>
     ensures { LineWritten (spell_line (label_bytes gate label)) out.old result out.new }
 {
-    if out.len() < 15 {
-        return Err(Refusal::no_room());
-    }
-    let at = put(out, 0, &[Kind::Label as u8]);
-    let at = put(out, at, &gate.to_be_bytes());
-    let at = put(out, at, &label.to_be_bytes());
-    feed(out, at)
+    let [a, b] = gate.to_be_bytes();
+    let [c, d, e, f] = label.to_be_bytes();
+    put_line(out, &[Kind::Label as u8, a, b, c, d, e, f])
 }
 
 // A root, how many members its cluster has, and they [F8].
@@ -65,12 +57,8 @@ fn cluster_line(root: u16, members: &[u16], out: &mut [u8]) -> Result<usize, Ref
 fn end_line(gates: u16, out: &mut [u8]) -> Result<usize, Refusal>
     ensures { LineWritten (spell_line (result_end_bytes gates)) out.old result out.new }
 {
-    if out.len() < 7 {
-        return Err(Refusal::no_room());
-    }
-    let at = put(out, 0, &[Kind::ResultEnd as u8]);
-    let at = put(out, at, &gates.to_be_bytes());
-    feed(out, at)
+    let [high, low] = gates.to_be_bytes();
+    put_line(out, &[Kind::ResultEnd as u8, high, low])
 }
 
 // A refusal's line [F10]. No text has a line or a column that two bytes do not hold; of a number that they do not hold the two
@@ -78,14 +66,9 @@ fn end_line(gates: u16, out: &mut [u8]) -> Result<usize, Refusal>
 pub fn refusal_line(refusal: Refusal, out: &mut [u8]) -> Result<usize, Refusal>
     ensures { LineWritten (spell_line (refusal_bytes refusal)) out.old result out.new }
 {
-    if out.len() < 13 {
-        return Err(Refusal::no_room());
-    }
-    let at = put(out, 0, &[Kind::Refusal as u8]);
-    let at = put(out, at, &[refusal.number]);
-    let at = put(out, at, &((refusal.line % 65_536) as u16).to_be_bytes());
-    let at = put(out, at, &((refusal.column % 65_536) as u16).to_be_bytes());
-    feed(out, at)
+    let [a, b] = ((refusal.line % 65_536) as u16).to_be_bytes();
+    let [c, d] = ((refusal.column % 65_536) as u16).to_be_bytes();
+    put_line(out, &[Kind::Refusal as u8, refusal.number, a, b, c, d])
 }
 
 // The 13 of a root: its cluster's members, rising.

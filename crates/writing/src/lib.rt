@@ -9,7 +9,7 @@ ghost use Rattle.texts.specs.Spelling.{header_bytes, end_bytes};
 ghost use Rattle.rows.specs.Spelling.{gate_line, row_lines};
 ghost use Rattle.writing.specs.Promises.{RowWritten};
 
-use frames::put::{feed, put, put_words};
+use frames::put::{feed, put, put_line, put_words};
 use frames::{Kind, Refusal};
 use rows::Header;
 use rows::network::Network;
@@ -18,25 +18,17 @@ use rows::network::Network;
 fn spell_header(capacity: u32, hop: u16, out: &mut [u8]) -> Result<usize, Refusal>
     ensures { LineWritten (spell_line (header_bytes capacity hop)) out.old result out.new }
 {
-    if out.len() < 15 {
-        return Err(Refusal::no_room());
-    }
-    let at = put(out, 0, &[Kind::Header as u8]);
-    let at = put(out, at, &capacity.to_be_bytes());
-    let at = put(out, at, &hop.to_be_bytes());
-    feed(out, at)
+    let [a, b, c, d] = capacity.to_be_bytes();
+    let [e, f] = hop.to_be_bytes();
+    put_line(out, &[Kind::Header as u8, a, b, c, d, e, f])
 }
 
 // The end's line [F5].
 fn spell_end(gates: u16, out: &mut [u8]) -> Result<usize, Refusal>
     ensures { LineWritten (spell_line (end_bytes gates)) out.old result out.new }
 {
-    if out.len() < 7 {
-        return Err(Refusal::no_room());
-    }
-    let at = put(out, 0, &[Kind::End as u8]);
-    let at = put(out, at, &gates.to_be_bytes());
-    feed(out, at)
+    let [high, low] = gates.to_be_bytes();
+    put_line(out, &[Kind::End as u8, high, low])
 }
 
 // A gate's line [F4].
