@@ -124,12 +124,9 @@ long_be w =
     let c : w % 256 ≡ w % 65536 % 256 = omega arith in
     cc
 
-module _ (w : ℕ) {at : ℕ} {bs out : List ℕ} {next : ℕ} {row : List ℕ} where
-  pub put_word : bs ≡ to_be_bytes w16 w → Put bs at out next row → Put (word_bytes w) at out next row
-  put_word e p = rw (← word_be w, ← e) p
-
-  pub put_long : bs ≡ to_be_bytes w32 w → Put bs at out next row → Put (long_bytes w) at out next row
-  put_long e p = rw (← long_be w, ← e) p
+pub put_word : (w : ℕ) {at : ℕ} {bs out : List ℕ} {next : ℕ} {row : List ℕ} → bs ≡ to_be_bytes w16 w → Put bs at out next row
+    → Put (word_bytes w) at out next row
+put_word w e p = rw (← word_be w, ← e) p
 
 pub stands_none : (at : ℕ) (out : List ℕ) → Stands [] at out at out
 unfolding digits gather

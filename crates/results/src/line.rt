@@ -39,6 +39,7 @@ fn label_line(gate: u16, label: u32, out: &mut [u8]) -> Result<usize, Refusal>
 }
 
 // A root, how many members its cluster has, and they [F8].
+// Part by part: `put_line` takes all bytes in one row, and their number varies here.
 fn cluster_line(root: u16, members: &[u16], out: &mut [u8]) -> Result<usize, Refusal>
     requires { length members.now < 2 ^ 16 }
     ensures { LineWritten (spell_line (cluster_bytes root members.now)) out.old result out.new }

@@ -32,6 +32,7 @@ fn spell_end(gates: u16, out: &mut [u8]) -> Result<usize, Refusal>
 }
 
 // A gate's line [F4].
+// Part by part: `put_line` takes all bytes in one row, and their number varies here.
 fn spell_gate(network: &Network, gate: usize, out: &mut [u8]) -> Result<usize, Refusal>
     requires { gate < network.now.header.gates }
     ensures { LineWritten (gate_line network.now.row.now gate) out.old result out.new }
