@@ -13,8 +13,8 @@ use results::block::{self, Block};
 use results::line;
 use rows::Header;
 
-// Whether a row is shorter than so many gates need. The three rows are lent one by one: what lends them may be C, and a struct of three `&mut` would
-// only be taken apart again.
+// Whether a row is shorter than so many gates need. The three rows are lent one by one: what lends them may be C, and a struct
+// of three `&mut` would only be taken apart again.
 fn too_short(gates: usize, row: &[u16], labels: &[u32], marks: &[u8]) -> bool
     ensures { result ≡ any_short gates (lent_of row.now labels.now marks.now) }
 {

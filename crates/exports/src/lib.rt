@@ -17,8 +17,8 @@ use frames::Refusal;
 use rows::Header;
 use units::{Cells, GateNumber, Ticks};
 
-// A refusal's number, line and column, and length 0; or three times 0, for no refusal, and the length of the line written: C has no `Result`. Line and
-// column are as wide as those of a refusal, so that none is cut.
+// A refusal's number, line and column, and length 0; or three times 0, for no refusal, and the length of the line written:
+// C has no `Result`. Line and column are as wide as those of a refusal, so that none is cut.
 #[repr(C)]
 #[derive(Clone, Copy)]
 pub struct Answer {

@@ -19,7 +19,7 @@ use units::{Cells, FanInCount, GateNumber, Ticks};
 // The line feed, 0A.
 const LINE_FEED: u8 = 10;
 
-// The types of a text's frames, as they are read.
+// The types of a text's frames as they are read: a pattern takes a constant, and no cast.
 const HEADER: u64 = Kind::Header as u64;
 
 const GATE: u64 = Kind::Gate as u64;

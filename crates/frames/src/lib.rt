@@ -29,7 +29,7 @@ pub enum Place {
 }
 
 // A refusal [O1]: which it is, and where: at what line, and at what column of it. Its number is any of 8 bits and no `Cause`: the makers
-// and whoever tells a refusal promise something for every number.
+// and whoever tells a refusal promise something for every number. Line and column count from 1, and 0 is none, as [O1] has it.
 #[derive(Clone, Copy)]
 pub struct Refusal {
     pub number: u8,
@@ -61,7 +61,7 @@ pub enum LineRead {
 pub const MOST_TEXT: usize = 24_576;
 
 // Why a text or a row is refused: the table's causes, each with the number that a refusal tells.
-#[derive(Clone, Copy, PartialEq, Eq)]
+#[derive(Clone, Copy)]
 pub enum Cause {
     // A text above its ceiling.
     TooLong = 1,
@@ -101,7 +101,7 @@ impl Cause {
 }
 
 // The types of frames, those of a text and those of a result.
-#[derive(Clone, Copy, PartialEq, Eq)]
+#[derive(Clone, Copy)]
 pub enum Kind {
     Header = 0x01,
     Gate = 0x02,

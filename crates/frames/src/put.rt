@@ -30,6 +30,7 @@ pub fn put(out: &mut [u8], at: usize, bytes: &[u8]) -> usize
     if !has_room(out.len(), at, 2 * bytes.len()) {
         return at;
     }
+    // The answer, which `put` hands on.
     let mut next = at;
     for &b in bytes {
         out[next] = figure(b / 16);

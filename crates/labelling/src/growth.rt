@@ -46,6 +46,7 @@ fn walk(network: &Network, v: usize, pulls: &PerGate<u64>, ordered: &[usize]) ->
 {
     let mut sum = rows::weight(network.row, v);
     let mut inputs = Ticks(0);
+    // How many joined is a part of the answer; the break tells what stopped them.
     let mut joined = 0;
     let stop = 'grow: {
         for &u in ordered {

@@ -1,6 +1,6 @@
 // Onward delays to one gate, in a row with an entry for each gate: 0 where no path is known, otherwise one tick more than
 // the largest sum of delays on a path. From the gate downward each gate passes its entry on to its fan-ins, so that an
-// entry is final when its gate is reached.
+// entry is final when its gate is reached. The model's rows are coded so, with no `None`.
 ghost use Rattle.std.specs.Prelude.{◌≡◌, ◌<◌, ◌^◌, get_or};
 ghost use Rattle.model.specs.Ceilings.{most_gates};
 ghost use Rattle.model.specs.Onward.{raise, visit};

@@ -1,7 +1,7 @@
 // Labelling's own rows, which a call has while it runs.
 use units::{GateNumber, PerGate};
 
-// The rows in which a cluster grows: the onward delays to its root, the pulls, and the gates by pull.
+// The rows in which a cluster grows, of numbers as the model's are: the onward delays to its root, the pulls, and the gates by pull.
 #[derive(Drop)]
 pub(crate) struct Work {
     pub(crate) onward: PerGate<u64>,

@@ -104,8 +104,8 @@ pub fn look(text: &[u8]) -> Result<Header, Refusal>
     look_gates(text, next, capacity, hop)
 }
 
-// Puts the fan-ins of the gate line that begins at `at` into the block of gate v. The cast is proved to fit: `try_from` would add an error that
-// never is.
+// Puts the fan-ins of the gate line that begins at `at` into the block of gate v. The cast is proved to fit: `try_from` would add
+// an error that never is.
 fn fill_fan_ins(text: &[u8], at: usize, count: usize, row: &mut [u16], v: usize)
     requires { (i : ℕ) → i < count → fan_in_from text.now at i < 65_536 }
     ensures { row.new ≡ with_fan_ins text.now at v 0 count row.old }
@@ -126,6 +126,7 @@ fn fill_row(text: &[u8], row: &mut [u16])
         // never: the text is a network's
         return;
     };
+    // Each turn goes on at the next line: where it begins only reading tells.
     let mut at = first;
     let mut gates = 0;
     loop {

@@ -1,5 +1,6 @@
 // The result, a line at a time: 11, a 12 for each gate, a 13 for each drawn cluster, 1F; or the one 1E of a refusal. Each
-// line is written into a lent row from its start. A row too short for the line answers 10 and is left as it was.
+// line is written into a lent row from its start. A row too short for the line answers 10 and is left as it was. Casts narrow numbers
+// that are proved to fit: `try_from` would add an error that never is.
 ghost use Rattle.std.specs.Prelude.{◌≤◌, ◌<◌, ◌^◌, length};
 ghost use Rattle.model.specs.Drawing.{members as members_in};
 ghost use Rattle.units.specs.Units.{label_place};

@@ -172,8 +172,8 @@ fn in_place(fanin: usize, least: usize, gate: usize) -> bool
     least <= fanin && fanin < gate
 }
 
-// 6: whether all fan-ins of a gate are in place. A text's are read four digits at a time in `frames`, before there is a row; one function for both would
-// have to promise by what an iterator yields.
+// 6: whether all fan-ins of a gate are in place. A text's are read four digits at a time in `frames`, before there is a row; one
+// function for both would have to promise by what an iterator yields.
 fn rising(fanins: &[u16], gate: usize) -> bool
     ensures { result ≡ rising_from 0 gate fanins.now }
 {
@@ -188,7 +188,7 @@ fn rising(fanins: &[u16], gate: usize) -> bool
     true
 }
 
-// A refusal at the line of a gate.
+// A refusal at the line of a gate. Whoever looks at a gate requires that its line has a number: no row of that many gates is that long.
 fn at_gate(cause: Cause, gate: usize) -> Refusal
     requires { gate + 2 < 2 ^ 64 }
     ensures { result ≡ at_line (number_of cause) (gate + 2) }
@@ -209,7 +209,7 @@ fn gate_fault(row: &[u16], gate: usize) -> Result<(), Refusal>
     Ok(())
 }
 
-// 4, 5 and 6 of the first gate that has one. A loop of its own for each of the two checks is shorter than one over closures, with their clauses.
+// 4, 5 and 6 of the first gate that has one. A loop of its own for each of the two checks is shorter than one over closures.
 fn first_fault(gates: usize, row: &[u16]) -> Result<(), Refusal>
     requires { gates + 2 < 2 ^ 64 }
     ensures { result ≡ first_fault row.now 0 gates }

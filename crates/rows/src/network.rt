@@ -5,7 +5,8 @@ ghost use Rattle.rows.specs.steps.Holds.{Holds};
 use crate::Header;
 use frames::Refusal;
 
-// A header within the ceilings, and a row in which its network stands.
+// A header within the ceilings, and a row in which its network stands. Where anyone may hand them over they come apart, as C lends
+// them. That a number is one of its gates each contract says: a type for it would hold the network again.
 #[derive(Clone, Copy)]
 pub struct Network<'a> {
     pub header: Header,

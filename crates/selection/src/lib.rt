@@ -1,6 +1,8 @@
 // Which clusters are drawn: those of the primary outputs, and with each cluster those of its inputs. A drawn cluster's root
-// has a mark in a row with a place for each gate, 1 for drawn and 0 for not. The marks are written, and a struct with them would have to be taken
-// apart at each write; so that they have a place a gate each contract says. Casts here widen, in a loop, where `From` is a call more to prove.
+// has a mark in a row with a place for each gate, 1 for drawn and 0 for not: numbers, as the rules and the model have them.
+//
+// The marks are written, and a struct with them would have to be taken apart at each write, so that each contract says that they
+// have a place a gate.
 #![tactic(auto)]
 
 ghost use Rattle.std.specs.Prelude.{◌≡◌, ◌^◌, ◌≤◌, ◌<◌, length, get_or, replicate};
@@ -27,7 +29,8 @@ pub struct Drawn {
     pub delay: Ticks,
 }
 
-// A mark for each gate of a list. Labelling's own has gates of another width; one function for both would have to promise by their conversion.
+// A mark for each gate of a list. Labelling's own has gates of another width; one function for both would have to promise by their
+// conversion. The casts of gates widen, and each bound would have to be told what a `From` gave.
 fn mark(row: &mut PerGate<u8>, gates: &[u16])
     requires { Below most_gates gates.now }
     ensures { row.new ≡ mark row.old gates.now }

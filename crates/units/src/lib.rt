@@ -1,7 +1,8 @@
-// Quantities of a network, each a type of its own: `Cells` and `Ticks` have methods of one shape, and no trait in common, so that nothing can be
-// written for both [W4]. Cells measure area: a weight, the capacity M, a sum of weights.
+// Quantities of a network, each a type of its own. Cells measure area: a weight, the capacity M, a sum of weights.
 // Ticks measure time: a delay, a label, a pull, the hop delay D. No function here takes one of each, so an area is
-// never added to or compared with a time. Gate numbers and fan-in counts are the two plain numbers with a ceiling.
+// never added to or compared with a time [W4]; their methods have one shape, and one function for both would take either.
+// Nor is there a `From` that makes one of a bare number: where a number becomes an area or a time, the code names it.
+// Gate numbers and fan-in counts are the two plain numbers with a ceiling.
 // Each of the four ceilings stands once, on the type that it bounds; the type's maker refuses what lies above it.
 #![tactic(auto)]
 

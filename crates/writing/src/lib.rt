@@ -1,5 +1,6 @@
 // The lines of a network that stands in its row: the header, a line a gate, the end. Each is written into a lent row from its
-// start. A row too short for the line answers 10 and is left as it was.
+// start. A row too short for the line answers 10 and is left as it was. Casts narrow numbers that are proved to fit: `try_from`
+// would add an error that never is.
 #![tactic(auto)]
 
 ghost use Rattle.std.specs.Prelude.{◌<◌};
