@@ -75,6 +75,7 @@ pub extern "C" fn lykophene_label(
 pub extern "C" fn lykophene_line(text: &[u8], index: usize, out: &mut [u8]) -> Answer
     ensures { LineOut text.now index out.old result out.new }
 {
+    // The program makes the same rows; each has them on its own stack, and lends them.
     let mut row = [0u16; rows::PLACES * GateNumber::MOST_GATES];
     let mut labels = [0u32; GateNumber::MOST_GATES];
     let mut marks = [0u8; GateNumber::MOST_GATES];

@@ -29,7 +29,7 @@ impl<'a> Labelled<'a> {
         Ok(Labelled { network, labels })
     }
 
-    // The members of the cluster of `root`, rising, written into the row `members`. How many.
+    // The members of the cluster of `root`, rising, written into the row `members`, which is lent: nothing here allocates. How many.
     pub fn members_of(&self, root: usize, members: &mut [u16]) -> usize
         requires known { root < self.now.network.header.gates }
         requires room { self.now.network.header.gates ≤ length members.old }
