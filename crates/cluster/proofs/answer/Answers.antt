@@ -3,10 +3,6 @@ use native.Mathlib.Omega.{arith}
 use Rattle.cluster.proofs.Blocks.{prepared_of}
 use Rattle.cluster.proofs.answer.Goals as goal
 
-pub print-requires : goal.print-requires
-print-requires c =
-    prepared_of c.prepare-answer.ensures (omega arith)
-
 pub returns : goal.returns
 returns c =
     c.print.ensures (prepared_of c.prepare-answer.ensures (omega arith))

@@ -1,25 +1,14 @@
 -- `cluster::print` meets its contract: each block begins behind the one before it, and the loop ends behind the last line.
 use mathlib.Core.Path.{refl, ap}
-use mathlib.Core.Logic.{inl, inr}
+use mathlib.Core.Logic.{inl}
 use native.Mathlib.Omega.{arith}
 use Rattle.std.specs.Prelude.{Ok}
-use Rattle.std.proofs.lemmas.Result.{err_from_is_err_and}
 use Rattle.cluster.specs.Printing.{first}
 use Rattle.cluster.proofs.Blocks.{begins_few, goes_on, at_last}
 use Rattle.cluster.proofs.print.Goals as goal
 
 pub loop-count-init : goal.loop-count-init
 loop-count-init c = (refl, λ t. first)
-
-pub print_block-requires : goal.print_block-requires
-print_block-requires c =
-    let t = c.requires in
-    record { roomy = omega arith; prepared = t; begins = rw c.loop-count.invariant.0 (c.loop-count.invariant.1 t) }
-
-pub returns-in_err-count : goal.returns-in_err-count
-returns-in_err-count c t =
-    let p = err_from_is_err_and c.from_residual.result c.from_residual.ensures.1 in
-    inr p.1
 
 pub returns-then-count-eq0 : goal.returns-then-count-eq0
 returns-then-count-eq0 c t =

@@ -1,12 +1,8 @@
 -- `cluster::print_block` meets its contract: by the headline `tell_lines` tells the block of that index.
-use mathlib.Core.Path.{refl, sym}
-use mathlib.Core.Logic.{inr}
+use mathlib.Core.Path.{sym}
 use lib.Seq.{length-take-le}
 use Rattle.cluster.proofs.Blocks.{told_within, told_bytes, block_printed}
 use Rattle.cluster.proofs.print_block.Goals as goal
-
-pub returns-in_default : goal.returns-in_default
-returns-in_default c t = inr refl
 
 pub slice_bounds-show-end : goal.slice_bounds-show-end
 slice_bounds-show-end c = told_within c.tell_lines.ensures c.in-Ok.is c.requires

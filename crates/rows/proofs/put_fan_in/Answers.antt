@@ -1,7 +1,6 @@
 -- `rows::put_fan_in` meets its contract: the one place is written where it is in the row and in the block.
 use mathlib.Core.Logic.{inl, inr}
 use native.Mathlib.Omega.{arith}
-use borrow.Author.Tests.{leb-false}
 use Rattle.rows.proofs.Access.{fanin_blockless, fanin_placeless, fanin_stored}
 use Rattle.rows.proofs.put_fan_in.Goals as goal
 
@@ -11,18 +10,6 @@ returns-then-row-v c =
       | inl h ↦ fanin_blockless _ _ _ _ h
       | inr h ↦ fanin_placeless _ _ _ _ h.0 h.1
     ]
-
-pub overflow_add-row-2 : goal.overflow_add-row-2
-overflow_add-row-2 c =
-    omega (arith, leb-false)
-
-pub offset_bounds-row-v : goal.offset_bounds-row-v
-offset_bounds-row-v c =
-    omega (arith, leb-false)
-
-pub bounds-row-v : goal.bounds-row-v
-bounds-row-v c =
-    omega (arith, leb-false)
 
 pub returns : goal.returns
 returns c =

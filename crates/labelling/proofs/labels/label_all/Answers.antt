@@ -4,11 +4,8 @@ use Rattle.std.proofs.Common.{◌<◌}
 use Rattle.model.specs.Network.{size}
 use Rattle.rows.specs.Found.{network_of}
 use Rattle.rows.proofs.Holds.{network_size}
-use Rattle.labelling.proofs.LabelsLaws.{labelling_starts, label_now, labelling_next, labelling_ends, label_held}
+use Rattle.labelling.proofs.LabelsLaws.{label_now, labelling_next, labelling_ends, label_held}
 use Rattle.labelling.proofs.labels.label_all.Goals as goal
-
-pub loop-v-init : goal.loop-v-init
-loop-v-init c = labelling_starts _ _ _
 
 pub loop-v-preserved : goal.loop-v-preserved
 loop-v-preserved c =

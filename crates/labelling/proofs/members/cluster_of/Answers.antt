@@ -14,11 +14,6 @@ long c = omega (arith, length-take (c.args.r + 1) c.mark_cluster.new.inside, few
 pub slice_bounds-reached-end : goal.slice_bounds-reached-end
 slice_bounds-reached-end c = omega (arith, long (goal.at.slice_bounds-reached-end c).After-mark_cluster)
 
-pub collect-requires : goal.collect-requires
-collect-requires c =
-    let long' = long (goal.at.collect-requires c).After-mark_cluster in
-    (omega (arith, few_gates _ _ c.args.labelled.now.network.holds), omega arith)
-
 pub returns : goal.returns
 returns c =
     let labelled = c.args.labelled.now in

