@@ -1,23 +1,20 @@
 -- Laws of the roots that marks tell.
-use Prim.Native.Nat.{ℕ, zero, suc, ◌+◌, ◌≤◌, ◌<◌}
+use Prim.Native.Nat.{ℕ, zero, suc, min, ◌+◌, ◌≤◌, ◌<◌}
 use mathlib.Core.Path.{◌≡◌, refl, sym, ◌∙◌, ap}
 use mathlib.Core.Logic.{◌⊎◌, inl, inr, ⊎_elim}
-use mathlib.Core.Bool.{Bool, true, false, not}
-use mathlib.Core.List.{List, [], ◌∷◌, ◌++◌, map, map-append, append-nil}
+use mathlib.Core.List.{List, [], ◌∷◌, ◌++◌}
 use native.Mathlib.Numerals.{add-one}
 use native.Mathlib.Omega.{arith}
-use borrow.Author.Tests.{lt-ltb, le-ltb, ne_eqb}
-use lib.Dec.{ltb, eqb}
+use borrow.Author.Tests.{lt-ltb, le-ltb}
+use lib.Dec.{ltb}
 use lib.ListN.{length, get_or, take, replicate, length-append, length-replicate, get_or-append, get_or-eq_default}
-use lib.Seq.{take-suc, length-take-le}
-use Rattle.std.specs.List.{filter, enumerate_from}
+use lib.Seq.{get_or_at}
 use Rattle.std.proofs.lemmas.Bool.{cases_lt}
-use Rattle.std.proofs.lemmas.List.{take_all, length-map}
-use Rattle.std.proofs.lemmas.List.Elements.{filter-append}
+use Rattle.std.proofs.lemmas.List.{get_or-take, length-take}
 use Rattle.model.specs.Basics.{◌∈◌, keep, upto}
 use Rattle.model.specs.Network.{Network, size, outputs}
 use Rattle.model.specs.Drawing.{mark, marks, drawn}
-use Rattle.model.proofs.Lists.{true_or_false, same_or_not, keep_in, upto_in}
+use Rattle.model.proofs.Lists.{same_or_not, keep_in, upto_in}
 use Rattle.model.proofs.Drawn.{length_mark, length_select}
 use Rattle.labelling.proofs.Lists.{get_or_in}
 use Rattle.selection.specs.Selection.{roots}
@@ -44,6 +41,33 @@ roots_more marks k =
     (λ (d : get_or marks k 0 ≡ 0 → ⊥). inl (rw add-one at (roots_marked marks k d)))
     (same_or_not (get_or marks k 0) 0)
 
+-- A gate past the row's end has no mark, so that the roots below the end are all.
+roots_end : (marks : List ℕ) (v k : ℕ) → v ≤ k → length marks ≤ v → roots marks k ≡ roots marks v
+roots_end marks v zero h l = let e : v ≡ zero = omega arith in rw e
+roots_end marks v (suc k) h l =
+    ⊎_elim (λ (e : v ≡ suc k). rw e)
+    (λ (d : v ≡ suc k → ⊥).
+    let past : length marks ≤ k = omega arith in
+    rw add-one at (roots_bare marks k (get_or-eq_default marks 0 past)) ∙ roots_end marks v k (omega arith) l)
+    (same_or_not v (suc k))
+
+-- The gates below v have been looked at, and there are no more, or no more marks.
+roots_seen : (marks : List ℕ) (v k : ℕ) → v ≤ k → (k ≤ v) ⊎ (length marks ≤ v) → roots marks k ≡ roots marks v
+roots_seen marks v k h l =
+    ⊎_elim (λ (m : k ≤ v). let e : k ≡ v = omega arith in rw e) (λ (m : length marks ≤ v). roots_end marks v k h m) l
+
+-- Marks in front of the row are looked at: so many as there are gates, or all that there are.
+pub front_read : (marks : List ℕ) (k v : ℕ) → v < length (take k marks) → get_or (take k marks) v 0 ≡ get_or marks v 0
+front_read marks k v h = get_or-take k marks v 0 (omega (arith, length-take k marks))
+
+pub front_seen : (marks : List ℕ) (k gates v : ℕ) → k ≡ min gates (length marks) → v ≤ length (take k marks) → length (take k marks) ≤ v
+    → roots marks gates ≡ roots marks v
+front_seen marks k gates v e few many =
+    let front = length-take k marks in
+    roots_seen marks v gates (omega (arith, front))
+    (⊎_elim (λ (h : gates < length marks). inl (omega (arith, front))) (λ (h : length marks ≤ gates). inr (omega (arith, front)))
+    (cases_lt gates (length marks)))
+
 -- no more roots than gates, and each a gate
 
 pub roots_few : (marks : List ℕ) (k : ℕ) → length (roots marks k) ≤ k
@@ -66,52 +90,48 @@ pub root_known : (marks : List ℕ) (k i d : ℕ) → i < length (roots marks k)
 root_known marks k i d h =
     rw (get_d_any (roots marks k) i d 0 h) (roots_in marks k (get_or (roots marks k) i 0) (get_or_in (roots marks k) i h))
 
--- the roots, as an iterator over the row numbers and filters them
+-- the root of an index
 
-abbrev pub marked : ℕ → Bool
-marked m = not (eqb m 0)
+roots_grow : (marks : List ℕ) (k : ℕ) → length (roots marks k) ≤ length (roots marks (suc k))
+roots_grow marks k =
+    ⊎_elim (λ e. omega (arith, ap length e, length-append (roots marks k) (k ∷ [])))
+    (λ e. omega (arith, ap length e))
+    (roots_more marks k)
 
--- of a gate's number and its mark
-abbrev pub is_root : ℕ × ℕ → Bool
-is_root p = marked p.1
-
-enumerate_last : (n : ℕ) (xs : List ℕ) (x : ℕ) → enumerate_from n (xs ++ (x ∷ [])) ≡ enumerate_from n xs ++ ((n + length xs, x) ∷ [])
-enumerate_last n [] x = let e : n ≡ n + 0 = omega arith in rw (← e)
-enumerate_last n (y ∷ ys) x =
-    let e : n + 1 + length ys ≡ n + suc (length ys) = omega arith in
-    ap (λ (r : List (ℕ × ℕ)). (n, y) ∷ r) (enumerate_last (n + 1) ys x ∙ rw e)
-
--- A gate past the row's end has no mark.
-pub numbered_roots : (marks : List ℕ) (k : ℕ) → map (λ p. p.0) (filter is_root (enumerate_from 0 (take k marks))) ≡ roots marks k
-numbered_roots marks zero = sym (roots_none marks)
-numbered_roots marks (suc k) =
+root_counts : (marks : List ℕ) (v k : ℕ) → v < k → (get_or marks v 0 ≡ 0 → ⊥) → length (roots marks v) < length (roots marks k)
+root_counts marks v zero h m = absurd (omega arith)
+root_counts marks v (suc k) h m =
     ⊎_elim
-    (λ (h : k < length marks).
-    let few : k ≤ length marks = omega arith in
-    let front = numbered_roots marks k in
-    let from : 0 + k ≡ k = omega arith in
-    rw (take-suc marks k 0, enumerate_last 0 (take k marks) (get_or marks k 0), length-take-le k marks few, filter-append, map-append)
-    (⊎_elim (λ (e : get_or marks k 0 ≡ 0). rw (e, append-nil, front) (sym (rw add-one at (roots_bare marks k e))))
-    (λ (d : get_or marks k 0 ≡ 0 → ⊥). rw (ne_eqb (get_or marks k 0) 0 d, front, from) (sym (rw add-one at (roots_marked marks k d))))
-    (same_or_not (get_or marks k 0) 0)))
-    (λ (l : length marks ≤ k).
-    ap (λ (front : List ℕ). map (λ p. p.0) (filter is_root (enumerate_from 0 front)))
-    (take_all (suc k) marks (omega arith) ∙ sym (take_all k marks l))
-    ∙ numbered_roots marks k
-    ∙ sym (rw add-one at (roots_bare marks k (get_or-eq_default marks 0 l))))
-    (cases_lt k (length marks))
+    (λ (e : v ≡ k).
+    rw e
+    (let more = rw add-one at (roots_marked marks v m) in
+    omega (arith, ap length (rw e at more), length-append (roots marks k) (k ∷ []))))
+    (λ (d : v ≡ k → ⊥). omega (arith, root_counts marks v k (omega arith) m, roots_grow marks k))
+    (same_or_not v k)
 
-numbered_many : (n : ℕ) (marks : List ℕ) → length (filter is_root (enumerate_from n marks)) ≡ length (filter marked marks)
-numbered_many n [] = refl
-numbered_many n (m ∷ marks) =
-    let rest = numbered_many (n + 1) marks in
-    ⊎_elim (λ (t : marked m ≡ true). rw t (ap suc rest)) (λ (f : marked m ≡ false). rw f rest) (true_or_false (marked m))
+-- A marked gate is the root whose index is the number of roots below it,
+pub root_here : (marks : List ℕ) (v k i d : ℕ) → v < k → (get_or marks v 0 ≡ 0 → ⊥) → length (roots marks v) ≡ i
+    → v ≡ get_or (roots marks k) i d
+root_here marks v zero i d h m e = absurd (omega arith)
+root_here marks v (suc k) i d h m e =
+    ⊎_elim
+    (λ (q : v ≡ k).
+    let more = rw add-one at (roots_marked marks v m) in
+    rw (← q) (sym (ap (λ (r : List ℕ). get_or r i d) more ∙ get_or_at (roots marks v) v [] d i e)))
+    (λ (n : v ≡ k → ⊥).
+    let inside = root_counts marks v k (omega arith) m in
+    root_here marks v k i d (omega arith) m e
+    ∙ sym
+    (⊎_elim
+    (λ (q : roots marks (suc k) ≡ roots marks k ++ (k ∷ [])). rw q (get_or-append (roots marks k) (k ∷ []) d i (omega arith)))
+    (λ (q : roots marks (suc k) ≡ roots marks k). rw q)
+    (roots_more marks k)))
+    (same_or_not v k)
 
-pub marked_roots : (marks : List ℕ) (k : ℕ) → length (filter marked (take k marks)) ≡ length (roots marks k)
-marked_roots marks k =
-    sym (numbered_many 0 (take k marks))
-    ∙ sym (length-map (filter is_root (enumerate_from 0 (take k marks))) (λ (p : ℕ × ℕ). p.0))
-    ∙ ap length (numbered_roots marks k)
+-- and with no more roots than its index there is none.
+pub root_past : (marks : List ℕ) (gates v i : ℕ) → roots marks gates ≡ roots marks v → length (roots marks v) ≤ i
+    → gates ≡ get_or (roots marks gates) i gates
+root_past marks gates v i seen few = sym (get_or-eq_default (roots marks gates) gates (omega (arith, ap length seen)))
 
 -- the marks of the drawn clusters
 

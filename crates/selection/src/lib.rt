@@ -127,7 +127,13 @@ fn mark_inputs(marks: &mut [u8], inside: &PerGate<u8>, network: &Network, member
 pub fn count_marked(gates: usize, marks: &[u8]) -> usize
     ensures { result ≡ length (roots marks.now gates) }
 {
-    marks.iter().take(gates).filter(|&&mark| mark != 0).count()
+    let mut count = 0;
+    for &mark in &marks[..gates.min(marks.len())] {
+        if mark != 0 {
+            count += 1;
+        }
+    }
+    count
 }
 
 // The marked gate of that index, counted from 0, of so many gates; where there are not so many marks, the number of gates (no `None`: the
@@ -135,14 +141,16 @@ pub fn count_marked(gates: usize, marks: &[u8]) -> usize
 pub fn nth_marked(gates: usize, marks: &[u8], index: usize) -> usize
     ensures { result ≡ get_or (roots marks.now gates) index gates }
 {
-    marks
-        .iter()
-        .take(gates)
-        .enumerate()
-        .filter(|&(_, &mark)| mark != 0)
-        .map(|(root, _)| root)
-        .nth(index)
-        .unwrap_or(gates)
+    let mut left = index;
+    for (root, &mark) in marks[..gates.min(marks.len())].iter().enumerate() {
+        if mark != 0 {
+            if left == 0 {
+                return root;
+            }
+            left -= 1;
+        }
+    }
+    gates
 }
 
 // The inputs of a root's cluster marked.

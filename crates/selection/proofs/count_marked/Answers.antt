@@ -1,18 +1,31 @@
--- `selection::count_marked` meets its contract: the marks in front of the row are as many as the roots.
-use mathlib.Core.Path.{◌∙◌}
-use borrow.Author.Tests.{tests}
-use Rattle.std.proofs.Common.{rules}
-use Rattle.std.proofs.lemmas.Iterator.{YieldsList-from_slice, YieldsList-from_take}
-use Rattle.std.proofs.lemmas.Iterator.Consumers.{YieldsList-at, YieldsList-from_filter, count_from_yields_List}
-use Rattle.selection.proofs.Roots.{marked, marked_roots}
+-- `selection::count_marked` meets its contract. The loop's invariant: the roots among the gates that have been looked at.
+use mathlib.Core.Path.{sym, ◌∙◌, ap}
+use mathlib.Core.List.{[], ◌∷◌}
+use native.Mathlib.Omega.{arith}
+use lib.ListN.{length, length-append}
+use Rattle.selection.specs.Selection.{roots}
+use Rattle.selection.proofs.Roots.{roots_none, roots_marked, roots_bare, front_read, front_seen}
 use Rattle.selection.proofs.count_marked.Goals as goal
+use Rattle.selection.proofs.count_marked.Goals.{then-mark-ne0, else-mark-ne0}
+
+pub loop-mark-init : goal.loop-mark-init
+loop-mark-init c = (omega arith, sym (ap length (roots_none c.args.marks.now)))
+
+pub loop-mark-preserved : goal.loop-mark-preserved
+loop-mark-preserved c =
+    let marks = c.args.marks.now in
+    let v = c.loop-mark.mark-index in
+    let read = front_read marks c.min.result v c.loop-mark-test.true in
+    elim c.if-mark-ne0.branch [
+      | then-mark-ne0 w ↦ (
+        omega arith,
+        omega (arith, ap length (roots_marked marks v (rw read at w.if-mark-ne0.true)), length-append (roots marks v) (v ∷ [])),
+      )
+      | else-mark-ne0 w ↦ (omega arith, omega (arith, ap length (roots_bare marks v (rw read at w.if-mark-ne0.false))))
+    ]
 
 pub returns : goal.returns
 returns c =
-    let counted = count_from_yields_List c.filter.result c.count.result c.count.ensures.ran
-    (YieldsList-from_filter _ marked
-    (YieldsList-at c.filter.ensures.source
-    (YieldsList-from_take c.args.gates (YieldsList-at c.take.ensures.source (YieldsList-from_slice c.args.marks.now (cc))) (cc)))
-    c.filter.ensures.closure
-    (λ x r q k. search (rules, tests))) in
-    counted ∙ marked_roots c.args.marks.now c.args.gates
+    let a = c.args in
+    let seen = front_seen a.marks.now c.min.result a.gates c.loop-mark.mark-index c.min.ensures (omega arith) (omega arith) in
+    omega (arith, ap length seen)

@@ -1,34 +1,39 @@
--- `selection::nth_marked` meets its contract: the marks in front of the row stand at the roots.
-use Prim.Native.Nat.{ℕ}
-use mathlib.Core.Path.{sym, ◌∙◌, ap}
-use mathlib.Core.List.{List}
-use lib.ListN.{get_or}
-use borrow.Author.Tests.{tests}
-use Rattle.std.proofs.Common.{rules}
-use Rattle.std.specs.Prelude.{Option}
-use Rattle.std.specs.Option.{unwrap_or}
-use Rattle.std.proofs.lemmas.Option.{unwrap_or-slice_get}
-use Rattle.std.proofs.lemmas.Iterator.Adapters.{option_map_id}
-use Rattle.std.proofs.lemmas.Iterator.{YieldsList-from_slice, YieldsList-from_take, YieldsList-from_map}
-use Rattle.std.proofs.lemmas.Iterator.Consumers.{YieldsList-at, YieldsList-from_filter, YieldsList-from_enumerate, nth_from_yields_List}
-use Rattle.selection.proofs.Roots.{is_root, numbered_roots}
+-- `selection::nth_marked` meets its contract. The loop's invariant: the roots among the gates that have been looked
+-- at, and those left to pass by, are as many as the index says.
+use mathlib.Core.Path.{ap}
+use mathlib.Core.List.{[], ◌∷◌}
+use native.Mathlib.Omega.{arith}
+use lib.ListN.{length, length-append}
+use Rattle.std.proofs.lemmas.List.{length-take}
+use Rattle.selection.specs.Selection.{roots}
+use Rattle.selection.proofs.Roots.{roots_none, roots_marked, roots_bare, front_read, front_seen, root_here, root_past}
 use Rattle.selection.proofs.nth_marked.Goals as goal
+use Rattle.selection.proofs.nth_marked.Goals.{then-mark-ne0+else-left-eq0, else-mark-ne0}
+
+pub loop-root-init : goal.loop-root-init
+loop-root-init c = omega (arith, ap length (roots_none c.args.marks.now))
+
+pub returns-then-left-eq0 : goal.returns-then-left-eq0
+returns-then-left-eq0 c =
+    let marks = c.args.marks.now in
+    let v = c.loop-root.root in
+    let read = front_read marks c.min.result v c.loop-root-test.true in
+    root_here marks v _ _ _ (omega (arith, length-take c.min.result marks)) (rw read at c.if-mark-ne0.true)
+    (omega (arith, c.if-left-eq0.true, c.loop-root.invariant))
+
+pub loop-root-preserved : goal.loop-root-preserved
+loop-root-preserved c =
+    let marks = c.args.marks.now in
+    let v = c.loop-root.root in
+    let read = front_read marks c.min.result v c.loop-root-test.true in
+    elim c.if-mark-ne0.branch [
+      | then-mark-ne0+else-left-eq0 w ↦
+          omega (arith, ap length (roots_marked marks v (rw read at w.if-mark-ne0.true)), length-append (roots marks v) (v ∷ []))
+      | else-mark-ne0 w ↦ omega (arith, ap length (roots_bare marks v (rw read at w.if-mark-ne0.false)))
+    ]
 
 pub returns : goal.returns
 returns c =
-    let at_index = nth_from_yields_List c.nth.result _ _ c.nth.ensures.ran
-    (YieldsList-from_map _ (λ p. p.0)
-    (YieldsList-at c.map.ensures.source
-    (YieldsList-from_filter _ is_root
-    (YieldsList-at c.filter.ensures.source
-    (YieldsList-from_enumerate
-    (YieldsList-at c.enumerate.ensures.source
-    (YieldsList-from_take c.args.gates (YieldsList-at c.take.ensures.source (YieldsList-from_slice c.args.marks.now (cc))) (cc)))
-    (cc)))
-    c.filter.ensures.closure
-    (λ x r q k. search (rules, tests))))
-    c.map.ensures.closure (λ x r q k. search rules)) in
-    c.unwrap_or.ensures
-    ∙ ap (λ (r : Option ℕ). unwrap_or r c.args.gates) (sym (option_map_id c.nth.result) ∙ at_index)
-    ∙ unwrap_or-slice_get _ c.args.index c.args.gates
-    ∙ ap (λ (roots : List ℕ). get_or roots c.args.index c.args.gates) (numbered_roots c.args.marks.now c.args.gates)
+    let a = c.args in
+    let seen = front_seen a.marks.now c.min.result a.gates c.loop-root.root c.min.ensures (omega arith) (omega arith) in
+    root_past a.marks.now a.gates c.loop-root.root a.index seen (omega arith)
