@@ -11,6 +11,7 @@ use Rattle.rows.specs.Read.{checked}
 use Rattle.units.specs.Units.{cells, ticks}
 use Rattle.units.specs.Outcome.{OneOutcome, OneContent}
 use Rattle.units.proofs.Unique.{same}
+use Rattle.rows.proofs.refusal.Reads as refusal
 use Rattle.rows.proofs.too_short.Reads as too_short
 use Rattle.rows.proofs.weight.Reads as weight
 use Rattle.rows.proofs.delay.Reads as delay
@@ -22,6 +23,9 @@ use Rattle.rows.proofs.check.Reads as check
 use Rattle.rows.proofs.network.Network.find.Reads as network_find
 
 -- Passed by value, or lent by `&`: nothing of the arguments changes, and the result is the whole outcome.
+
+pub refusal_unique : OneOutcome refusal.Learnt (λ κs exit. tt {0})
+refusal_unique κs args r s exit exit' p q = (same p q, refl)
 
 pub too_short_unique : OneOutcome too_short.Learnt (λ κs exit. tt {0})
 too_short_unique κs args r s exit exit' p q = (same p q, refl)

@@ -19,6 +19,11 @@ unfoldable pub checked : Header → List ℕ → Result Header Refusal
 unfolding shown row_answer
 checked h row = shown (row_answer h row)
 
+-- The refusal of an answer that refuses. It is asked of no other; of one that is a network it is 10.
+abbrev pub refusal_in : Result Header Refusal → Refusal
+refusal_in (Ok h) = no_room
+refusal_in (Err f) = f
+
 -- [O5] what reading a text answers with this row lent: 10 comes last
 unfoldable pub in_room : List ℕ → Reading → Reading
 unfolding too_short size

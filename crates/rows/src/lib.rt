@@ -7,7 +7,7 @@ ghost use Rattle.model.specs.Network.{empty};
 ghost use Rattle.frames.specs.Refusal.{number_of, at_line};
 ghost use Rattle.frames.specs.Table.{rising_from};
 ghost use Rattle.rows.specs.Row.{places, too_short, block, weight_in, delay_in, count_in, fanins_in, gate_put, fanin_put};
-ghost use Rattle.rows.specs.Read.{checked};
+ghost use Rattle.rows.specs.Read.{checked, refusal_in};
 ghost use Rattle.rows.specs.steps.RowCheck.{
   settled,
   gate_length,
@@ -31,6 +31,16 @@ pub struct Header {
     pub capacity: Cells,
     pub hop: Ticks,
     pub gates: usize,
+}
+
+// The refusal of an answer that refuses; it is asked of no other, which has 10.
+pub fn refusal(answer: Result<Header, Refusal>) -> Refusal
+    ensures { result ≡ refusal_in answer }
+{
+    match answer {
+        Ok(_) => Refusal::no_room(),
+        Err(refusal) => refusal,
+    }
 }
 
 // Where in its block a gate has its weight.
