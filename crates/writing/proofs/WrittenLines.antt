@@ -21,10 +21,11 @@ use Rattle.texts.specs.Reading.{refused}
 use Rattle.texts.specs.Spelling.{header_bytes, gate_bytes, end_bytes}
 use Rattle.rows.specs.declared.Header.{Header}
 use Rattle.rows.specs.Row.{weight_in, delay_in, count_in, fanins_in, gate_in}
+use Rattle.rows.specs.Read.{checked}
 use Rattle.rows.specs.Spelling.{gate_line, row_lines, row_answer}
 use Rattle.rows.specs.steps.Holds.{Holds}
 use Rattle.rows.proofs.Holds.{weight_most, delay_most, fanins_counted}
-use Rattle.rows.proofs.Checked.{Known}
+use Rattle.rows.proofs.Checked.{Known, check_refused}
 use Rattle.writing.specs.Promises.{answer_unless, row_unless, RowWritten}
 
 -- The bytes of a gate's frame, and its five parts put one after the other.
@@ -125,3 +126,14 @@ module _ (index : ℕ) {h : Header} {row : List ℕ} (out : List ℕ) where
         answer = rw (known.answered, ← known.lines) w.answer;
         kept = rw (known.answered, ← known.lines) w.kept;
       }
+
+-- A refusal that `check` told is the answer, and the lent row is as it was.
+pub told_answer : (h : Header) (row : List ℕ) (w : Result ℕ Refusal) {r : Result Header Refusal} {f : Refusal} → r ≡ checked h row → r ≡ Err f
+    → Err f ≡ answer_unless (row_answer h row) w
+unfolding answer_unless
+told_answer h row w answers is = rw (check_refused h row answers is)
+
+pub told_row : (h : Header) (row out written : List ℕ) {r : Result Header Refusal} {f : Refusal} → r ≡ checked h row → r ≡ Err f
+    → out ≡ row_unless (row_answer h row) out written
+unfolding row_unless
+told_row h row out written answers is = rw (check_refused h row answers is)
