@@ -75,6 +75,7 @@ fn spell_line(index: usize, network: &Network, out: &mut [u8]) -> Result<usize, 
 
 // The line of that index, counted from 0, of the text that the header and the row spell: the header, a line a gate, the end;
 // past the last line nothing. What refuses that text is answered before anything is written.
+// Whatever form hands a refusal of the check on, the two lemmas say what it has to leave.
 #[tactic(auto, using(crate::proofs::WrittenLines::told_answer, crate::proofs::WrittenLines::told_row))]
 pub fn write_line(
     index: usize,

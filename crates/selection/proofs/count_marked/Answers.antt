@@ -1,5 +1,5 @@
 -- `selection::count_marked` meets its contract. The loop's invariant: the roots among the gates that have been looked at.
-use mathlib.Core.Path.{sym, ◌∙◌, ap}
+use mathlib.Core.Path.{sym, ap}
 use mathlib.Core.List.{[], ◌∷◌}
 use native.Mathlib.Omega.{arith}
 use lib.ListN.{length, length-append}
