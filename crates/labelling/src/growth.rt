@@ -48,7 +48,7 @@ fn walk(network: &Network, v: usize, pulls: &PerGate<u64>, ordered: &[usize]) ->
     let mut inputs = Ticks(0);
     // How many joined is a part of the answer; the break tells what stopped them.
     let mut joined = 0;
-    let stop = 'grow: {
+    let stop = 'grow: loop {
         for &u in ordered {
             sum = sum.plus(rows::weight(network.row, u));
             if !sum.within(network.header.capacity) {

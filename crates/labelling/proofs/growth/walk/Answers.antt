@@ -1,6 +1,6 @@
--- `labelling::growth::walk` meets its contract. The loop's invariant: growing on gives what growing from the root gives, and the
+-- `labelling::growth::walk` meets its contract. The invariant of both loops: growing on gives what growing from the root gives, and the
 -- time is the largest pull of a primary input that has joined.
-use Rattle.std.proofs.Common.{◌≡◌, ◌<◌, sym, ◌∙◌, ap, add-one, List, get_or, arith}
+use Rattle.std.proofs.Common.{◌≡◌, ◌<◌, refl, sym, ◌∙◌, ap, add-one, List, get_or, arith}
 use lib.Dec.{leb}
 use Rattle.std.specs.Prelude.{ℕ}
 use Rattle.model.specs.Network.{weight}
@@ -19,14 +19,22 @@ use Rattle.labelling.proofs.growth.walk.Goals.{In-loop-u}
 weighs : (n : Standing) (u : ℕ) → u < n.header.gates → weight_in n.row.now u ≡ weight (network_of n) u
 weighs n u h = sym (weight_stands n.header n.row.now u h)
 
-pub loop-u-init : goal.loop-u-init
-loop-u-init c =
+pub grow-init : goal.grow-init
+grow-init c =
     let n = c.args.network.now in
     let here = weighs n c.args.v c.requires.known in record {
-      so_far = omega arith;
+      none_yet = refl;
       growing = growing_starts _ c.args.v _ _ (c.weight-sum.ensures ∙ here)
           (rw here at (weight_most _ _ n.holds c.args.v c.requires.known));
       inputs = inputs_start _ _;
+    }
+
+pub loop-u-init : goal.loop-u-init
+loop-u-init c =
+    let g = c.grow.invariant in record {
+      so_far = g.none_yet;
+      growing = g.growing;
+      inputs = g.inputs;
     }
 
 -- The next gate of the ordered row.
