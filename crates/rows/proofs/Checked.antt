@@ -1,6 +1,7 @@
 -- What `check` answers, by the fault that is found, and what is known afterwards.
 use Prim.Native.Nat.{ℕ}
 use Rattle.std.specs.Prelude.{Result, Ok, Err}
+use Rattle.std.proofs.Common.{Fits, w16, get_or}
 use mathlib.Core.Path.{◌≡◌, refl, sym, ◌∙◌, ap}
 use mathlib.Core.Bool.{cond}
 use mathlib.Core.List.{List}
@@ -40,6 +41,14 @@ module _ (h : Header) (row : List ℕ) (fit : InRange row) {f : Result (Unit {0}
   pub checked_refused : {r : Refusal} → f ≡ Err r → Err r ≡ checked h row
   unfolding shown unless_fault
   checked_refused e = rw e at shown_check
+
+-- the same of a fault that was found, whatever form tells it
+module _ (h : Header) (row : List ℕ) {k : Header} {f : Result (Unit {0}) Refusal} where
+  pub network_told : k ≡ settled h → f ≡ row_fault k row → ((i : ℕ) → Fits w16 (get_or row i 0)) → f ≡ Ok (tt {0}) → Ok k ≡ checked h row
+  network_told known found fits is = rw known (checked_network h row (λ i. (fits i).fits) (rw known at found) is)
+
+  pub fault_told : {r : Refusal} → k ≡ settled h → f ≡ row_fault k row → ((i : ℕ) → Fits w16 (get_or row i 0)) → f ≡ Err r → Err r ≡ checked h row
+  fault_told known found fits is = checked_refused h row (λ i. (fits i).fits) (rw known at found) is
 
 -- M and D are held at their ceilings: doing so once more changes nothing
 

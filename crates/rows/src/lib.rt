@@ -285,6 +285,8 @@ impl Header {
 
 // What a header and a row handed over answer: the header of the network that stands in the row, or what refuses the text that they
 // spell [R5], and 10 where the row is too short for the gates that the header claims.
+// Whatever form tells what `row_fault` found, the two lemmas say what it has to be.
+#[tactic(auto, using(crate::proofs::Checked::network_told, crate::proofs::Checked::fault_told))]
 pub fn check(header: Header, row: &[u16]) -> Result<Header, Refusal>
     ensures { result ≡ checked header row.now }
 {

@@ -127,6 +127,7 @@ fn mark_inputs(marks: &mut [u8], inside: &PerGate<u8>, network: &Network, member
 pub fn count_marked(gates: usize, marks: &[u8]) -> usize
     ensures { result ≡ length (roots marks.now gates) }
 {
+    // No chain: what is counted is asked for once a line, and filtered marks took more than twice as many steps.
     let mut count = 0;
     for &mark in &marks[..gates.min(marks.len())] {
         if mark != 0 {
@@ -141,6 +142,7 @@ pub fn count_marked(gates: usize, marks: &[u8]) -> usize
 pub fn nth_marked(gates: usize, marks: &[u8], index: usize) -> usize
     ensures { result ≡ get_or (roots marks.now gates) index gates }
 {
+    // No chain here either.
     let mut left = index;
     for (root, &mark) in marks[..gates.min(marks.len())].iter().enumerate() {
         if mark != 0 {
